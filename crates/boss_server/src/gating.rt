@@ -1,4 +1,4 @@
-ghost use Rattle.std.specs.Prelude.{◌≡◌, ◌+◌, ◌≤◌, [], ◌∷◌, take, drop, vec_len, IfOk, OnErr};
+ghost use Rattle.std.specs.Prelude.{◌≡◌, ◌+◌, ◌≤◌, [], ◌∷◌, take, drop, vec_len, option_copied, IfOk, OnErr};
 ghost use Rattle.boss_model.specs.Limits.{most_workers};
 ghost use Rattle.boss_model.specs.Catalogue.{actuators};
 ghost use Rattle.boss_access.specs.Decisions.{first_denied};
@@ -60,7 +60,7 @@ where
     ensures sound { H.sound outside.new.host.now }
     ensures listens { H.tells → H.listens outside.new.host.now ≡ H.listens outside.old.host.now }
     ensures account { IfOk result.1 (λ told. Account A.calls (λ device. A.tells × A.whole device)
-        (terms_of server.entry.catalogue.now (gates_of server.entry.catalogue.now rules) server.entry.workers H.In.tells H.Out.tells H.tells C.tells W.tells) W.tells
+        (terms_of server.entry.catalogue.now (gates_of server.entry.catalogue.now rules) (option_copied server.entry.keys) server.entry.workers H.In.tells H.Out.tells H.tells C.tells W.tells) W.tells
         (server.entry.workers + 1 + drives) connections (own_of G.Desk result.0) (G.seen result.0)
         (H.served outside.old.host.now) (H.served outside.new.host.now) (C.given outside.old.clock.now) (C.given outside.new.clock.now)
         (hosted_at H.Host outside.old.host.now) (hosted_at H.Host outside.new.host.now) (C.faults outside.old.clock.now) (C.faults outside.new.clock.now)
@@ -117,7 +117,7 @@ where
     ensures sound { H.sound outside.new.host.now }
     ensures listens { H.tells → H.listens outside.new.host.now ≡ H.listens outside.old.host.now }
     ensures account { IfOk result.1 (λ told. Account A.calls (λ device. A.tells × A.whole device)
-        (terms_of server.entry.catalogue.now [] server.entry.workers H.In.tells H.Out.tells H.tells C.tells W.tells) W.tells
+        (terms_of server.entry.catalogue.now [] (option_copied server.entry.keys) server.entry.workers H.In.tells H.Out.tells H.tells C.tells W.tells) W.tells
         (server.entry.workers + 1 + drives) connections (own_of G.Desk result.0) (G.seen result.0)
         (H.served outside.old.host.now) (H.served outside.new.host.now) (C.given outside.old.clock.now) (C.given outside.new.clock.now)
         (hosted_at H.Host outside.old.host.now) (hosted_at H.Host outside.new.host.now) (C.faults outside.old.clock.now) (C.faults outside.new.clock.now)
@@ -174,7 +174,7 @@ where
     ensures sound { H.sound outside.new.host.now }
     ensures listens { H.tells → H.listens outside.new.host.now ≡ H.listens outside.old.host.now }
     ensures account { IfOk result.1 (λ told. Account A.calls (λ device. A.tells × A.whole device)
-        (terms_of server.entry.catalogue.now (first_denied rules server.entry.catalogue.now.points ∷ []) server.entry.workers H.In.tells H.Out.tells H.tells C.tells W.tells) W.tells
+        (terms_of server.entry.catalogue.now (first_denied rules server.entry.catalogue.now.points ∷ []) (option_copied server.entry.keys) server.entry.workers H.In.tells H.Out.tells H.tells C.tells W.tells) W.tells
         (server.entry.workers + 1 + drives) connections (own_of G.Desk result.0) (G.seen result.0)
         (H.served outside.old.host.now) (H.served outside.new.host.now) (C.given outside.old.clock.now) (C.given outside.new.clock.now)
         (hosted_at H.Host outside.old.host.now) (hosted_at H.Host outside.new.host.now) (C.faults outside.old.clock.now) (C.faults outside.new.clock.now)
@@ -191,6 +191,7 @@ where
     let Server {
         desk,
         catalogue,
+        keys,
         workers,
     } = server;
     let gate = Gatekeeper::new(rules, catalogue, desk);
@@ -198,6 +199,7 @@ where
     let server = Server {
         desk: gate,
         catalogue,
+        keys,
         workers,
     };
     let told = serve(alloc, &server, &mut admitted, outside, connections, drives);

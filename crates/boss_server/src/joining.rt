@@ -1,4 +1,4 @@
-ghost use Rattle.std.specs.Prelude.{◌≡◌, ℕ, ◌+◌, ◌-◌, ◌^◌, ◌<◌, ◌≤◌, ◌∷◌, ◌++◌, min, List, [], Bool, length, insert, vec_len, vec_capacity};
+ghost use Rattle.std.specs.Prelude.{◌≡◌, ℕ, ◌+◌, ◌-◌, ◌^◌, ◌<◌, ◌≤◌, ◌∷◌, ◌++◌, min, List, [], Bool, length, insert, vec_len, vec_capacity, option_copied};
 ghost use Rattle.boss_outside.specs.Counts.{Joins};
 ghost use Rattle.boss_lock.specs.Places.{IsLonger};
 ghost use Rattle.def_lanes.specs.Parts.{Joined};
@@ -117,7 +117,7 @@ pub(crate) fn join_all<'a, G: Desk, H: Host, C: Clock, W: Waiter, A: Actuators +
     requires empty { own_of G.Desk pass.old ≡ [] }
     requires sound { H.sound outside.old.host.now }
     requires left { EachInTurn done.items 0 (λ ran number worker. (worker.server.now ≡ server.now) × (worker.number ≡ number)
-        × HasLeft G.Desk H.Host C.Clock W.Waiter A.Actuators ran (terms_of server.now.catalogue.now (G.denies server.now.desk) server.now.workers H.In.tells H.Out.tells H.tells C.tells W.tells)
+        × HasLeft G.Desk H.Host C.Clock W.Waiter A.Actuators ran (terms_of server.now.catalogue.now (G.denies server.now.desk) (option_copied server.now.keys) server.now.workers H.In.tells H.Out.tells H.tells C.tells W.tells)
         server.now.desk number worker.pass worker.duty worker.clock worker.waiter worker.flags) }
     requires room { vec_len outside.old.devices.now + length (devices_in done.items (λ worker. was_at worker.duty)) ≤ vec_capacity outside.old.devices.now }
     ensures references { KeepsReferences outside.old outside.new }
@@ -126,7 +126,7 @@ pub(crate) fn join_all<'a, G: Desk, H: Host, C: Clock, W: Waiter, A: Actuators +
     ensures sound { H.sound outside.new.host.now }
     ensures listens { H.tells → H.listens outside.new.host.now ≡ H.listens outside.old.host.now }
     ensures spawner { outside.new.spawner.now ≡ outside.old.spawner.now }
-    ensures account { Account A.calls (λ device. A.tells × A.whole device) (terms_of server.now.catalogue.now (G.denies server.now.desk) server.now.workers H.In.tells H.Out.tells H.tells C.tells W.tells) W.tells
+    ensures account { Account A.calls (λ device. A.tells × A.whole device) (terms_of server.now.catalogue.now (G.denies server.now.desk) (option_copied server.now.keys) server.now.workers H.In.tells H.Out.tells H.tells C.tells W.tells) W.tells
         (length done.entry.items) (shares_in done.entry.items (λ worker. share_at H.Host worker.duty)) (own_of G.Desk pass.new) (G.seen pass.new)
         (H.served outside.old.host.now) (H.served outside.new.host.now) (C.given outside.old.clock.now) (C.given outside.new.clock.now)
         (hosted_at H.Host outside.old.host.now) (hosted_at H.Host outside.new.host.now) (C.faults outside.old.clock.now) (C.faults outside.new.clock.now)

@@ -42,8 +42,8 @@ fn drives_for<A>(catalogue: &Catalogue, devices: &Vec<A>) -> u16
 
 /// Serves so many connections over a keeper whose disk never failed, by so many workers, 1 to 1,024 of them, lets time pass, and drives
 /// the devices, of which each is that of the driver with its place as number; then gives the keeper back. Where there are rules they
-/// judge each submit. It then stands for one
-/// history from the keeper as it was handed over, which is all that the workers did.
+/// judge each submit, and where there are keys lines are read by them. It then stands for one history from the keeper as it was handed
+/// over, which is all that the workers did.
 ///
 /// NoMemory: none of the workers has run, and the keeper stands for an empty history. All devices are in their places, as they were.
 pub fn serve_keeper<
@@ -80,7 +80,7 @@ where
     ensures listens { H.tells → H.listens outside.new.host.now ≡ H.listens outside.old.host.now }
     ensures under { K.under result.0 ≡ K.under keeper }
     ensures ran { IfOk result.1 (λ ended. Ran K.Keeper A.calls (λ device. A.tells × A.whole device)
-        (terms_of site.entry.catalogue.now (gates_of site.entry.catalogue.now site.entry.rules) workers H.In.tells H.Out.tells H.tells C.tells W.tells) W.tells
+        (terms_of site.entry.catalogue.now (gates_of site.entry.catalogue.now site.entry.rules) site.entry.keys workers H.In.tells H.Out.tells H.tells C.tells W.tells) W.tells
         (workers + 1 + drives_of site.entry.catalogue.now outside.old.devices.now.items) connections keeper result.0
         (H.served outside.old.host.now) (H.served outside.new.host.now) (C.given outside.old.clock.now) (C.given outside.new.clock.now)
         (hosted_at H.Host outside.old.host.now) (hosted_at H.Host outside.new.host.now) (C.faults outside.old.clock.now) (C.faults outside.new.clock.now)
@@ -96,7 +96,11 @@ where
     ensures devices { OnErr result.1 (outside.new.devices.now.items ≡ outside.old.devices.now.items) }
     ensures spawner { OnErr result.1 (outside.new.spawner.now ≡ outside.old.spawner.now) }
 {
-    let Site { catalogue, rules } = site;
+    let Site {
+        catalogue,
+        rules,
+        keys,
+    } = site;
     let drives = drives_for(catalogue, outside.devices);
     let (desk, pass) = match Manager::new(rt, alloc, keeper, workers + 2 + u32::from(drives)) {
         Ok(made) => made,
@@ -105,6 +109,7 @@ where
     let server = Server {
         desk: &desk,
         catalogue,
+        keys: keys.as_ref(),
         workers,
     };
     let (pass, told) = serve_behind(alloc, server, rules, pass, outside, connections, drives);

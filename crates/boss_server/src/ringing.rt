@@ -60,7 +60,7 @@ where
     ensures listens { H.tells → H.listens outside.new.host.now ≡ H.listens outside.old.host.now }
     ensures under { V.under result.0 ≡ V.under keeper }
     ensures ran { IfOk result.1 (λ ended. Ran V.Keeper A.calls (λ device. A.tells × A.whole device)
-        (terms_of site.entry.catalogue.now (gates_of site.entry.catalogue.now site.entry.rules) workers H.In.tells H.Out.tells H.tells C.tells W.tells) W.tells
+        (terms_of site.entry.catalogue.now (gates_of site.entry.catalogue.now site.entry.rules) site.entry.keys workers H.In.tells H.Out.tells H.tells C.tells W.tells) W.tells
         (workers + 1 + drives_of site.entry.catalogue.now outside.old.devices.now.items) connections keeper result.0
         (H.served outside.old.host.now) (H.served outside.new.host.now) (C.given outside.old.clock.now) (C.given outside.new.clock.now)
         (hosted_at H.Host outside.old.host.now) (hosted_at H.Host outside.new.host.now) (C.faults outside.old.clock.now) (C.faults outside.new.clock.now)

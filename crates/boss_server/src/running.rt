@@ -1,4 +1,4 @@
-ghost use Rattle.std.specs.Prelude.{◌≡◌, ◌+◌, ◌≤◌, [], length, vec_len, vec_capacity, IfOk, IfErr};
+ghost use Rattle.std.specs.Prelude.{◌≡◌, ◌+◌, ◌≤◌, [], length, vec_len, vec_capacity, IfOk, IfErr, option_copied};
 ghost use Rattle.boss_worker.specs.Desks.{own_of};
 ghost use Rattle.boss_worker.specs.Saying.{terms_of};
 ghost use Rattle.boss_worker.specs.Workers.{share_at, was_at, IsReady};
@@ -51,7 +51,7 @@ where
     ensures listens { H.tells → H.listens outside.new.host.now ≡ H.listens outside.old.host.now }
     ensures parts { IfOk result (λ told. G.parts pass.new ≡ G.parts pass.old + length workers.entry.items) }
     ensures account { IfOk result (λ told. Account A.calls (λ device. A.tells × A.whole device)
-        (terms_of server.now.catalogue.now (G.denies server.now.desk) server.now.workers H.In.tells H.Out.tells H.tells C.tells W.tells) W.tells
+        (terms_of server.now.catalogue.now (G.denies server.now.desk) (option_copied server.now.keys) server.now.workers H.In.tells H.Out.tells H.tells C.tells W.tells) W.tells
         (length workers.entry.items) (shares_of workers.entry.items (λ worker. share_at H.Host worker.duty)) (own_of G.Desk pass.new) (G.seen pass.new)
         (H.served outside.old.host.now) (H.served outside.new.host.now) (C.given outside.old.clock.now) (C.given outside.new.clock.now)
         (hosted_at H.Host outside.old.host.now) (hosted_at H.Host outside.new.host.now) (C.faults outside.old.clock.now) (C.faults outside.new.clock.now)

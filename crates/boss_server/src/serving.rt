@@ -1,4 +1,4 @@
-ghost use Rattle.std.specs.Prelude.{◌≡◌, ◌+◌, ◌≤◌, [], length, take, drop, vec_len, IfOk, OnErr};
+ghost use Rattle.std.specs.Prelude.{◌≡◌, ◌+◌, ◌≤◌, [], length, take, drop, vec_len, IfOk, OnErr, option_copied};
 ghost use Rattle.boss_model.specs.Limits.{most_workers};
 ghost use Rattle.boss_model.specs.Catalogue.{actuators};
 ghost use Rattle.boss_worker.specs.Desks.{own_of};
@@ -57,7 +57,7 @@ where
     ensures sound { H.sound outside.new.host.now }
     ensures listens { H.tells → H.listens outside.new.host.now ≡ H.listens outside.old.host.now }
     ensures account { IfOk result (λ told. Account A.calls (λ device. A.tells × A.whole device)
-        (terms_of server.now.catalogue.now (G.denies server.now.desk) server.now.workers H.In.tells H.Out.tells H.tells C.tells W.tells) W.tells
+        (terms_of server.now.catalogue.now (G.denies server.now.desk) (option_copied server.now.keys) server.now.workers H.In.tells H.Out.tells H.tells C.tells W.tells) W.tells
         (server.now.workers + 1 + drives) connections (own_of G.Desk pass.new) (G.seen pass.new)
         (H.served outside.old.host.now) (H.served outside.new.host.now) (C.given outside.old.clock.now) (C.given outside.new.clock.now)
         (hosted_at H.Host outside.old.host.now) (hosted_at H.Host outside.new.host.now) (C.faults outside.old.clock.now) (C.faults outside.new.clock.now)

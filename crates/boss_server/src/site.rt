@@ -1,4 +1,5 @@
 use boss_access::Rules;
+use boss_keys::Keys;
 use boss_points::Catalogue;
 
 /// What a server goes by.
@@ -8,4 +9,6 @@ pub struct Site<'a> {
     pub catalogue: &'a Catalogue,
     /// The rules by which submits are denied, if there are such.
     pub rules: Option<Rules>,
+    /// The keys by which whoever connects shows who it is, if there are such.
+    pub keys: Option<Keys>,
 }

@@ -24,6 +24,7 @@ clock-served session.ReadFault before now cause = cause
 clock-served session.WriteFault before now cause = cause
 clock-served session.ClockFault before now cause = cause
 clock-served session.TooLong before now cause = cause
+clock-served session.WrongKey before now cause = cause
 clock-served session.Limit before now cause = cause
 clock-served session.Stopped before now cause = tt
 clock-served session.DiskFault before now cause = tt
@@ -52,6 +53,7 @@ broken-served session.ReadFault before now cause is = absurd (let no : Nothing �
 broken-served session.WriteFault before now cause is = absurd (let no : Nothing ≡ Disk = is in cc)
 broken-served session.ClockFault before now cause is = absurd (let no : Clock ≡ Disk = is in cc)
 broken-served session.TooLong before now cause is = absurd (let no : Nothing ≡ Disk = is in cc)
+broken-served session.WrongKey before now cause is = absurd (let no : Nothing ≡ Disk = is in cc)
 broken-served session.Limit before now cause is = absurd (let no : Nothing ≡ Disk = is in cc)
 broken-served session.Stopped before now cause is = cause
 broken-served session.DiskFault before now cause is = cause
@@ -80,6 +82,7 @@ not-watch session.ReadFault other = refl
 not-watch session.WriteFault other = refl
 not-watch session.ClockFault other = refl
 not-watch session.TooLong other = refl
+not-watch session.WrongKey other = refl
 not-watch session.Limit other = refl
 not-watch session.Stopped other = refl
 not-watch session.DiskFault other = refl

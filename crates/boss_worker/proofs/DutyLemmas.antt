@@ -1,5 +1,5 @@
 -- What a worker left that let time pass, or drove devices.
-use Rattle.std.proofs.Common.{◌≡◌, ℕ, suc, ◌+◌, ◌<◌, ◌≤◌, Bool, true, false, List, [], ◌∷◌, ◌++◌, length, refl, ap, sym, ◌∙◌, subst, arith}
+use Rattle.std.proofs.Common.{◌≡◌, ℕ, suc, ◌+◌, ◌<◌, ◌≤◌, Bool, true, false, List, [], ◌∷◌, ◌++◌, length, refl, ap, sym, ◌∙◌, subst, arith, Option}
 use Rattle.std.specs.List.{AllByRecursion}
 use Rattle.boss_model.specs.Catalogue.{actuators, Catalogue}
 use Rattle.boss_model.specs.declared.command.Command.TheVariants.{Tick}
@@ -22,6 +22,7 @@ use Rattle.boss_expiry.specs.Ticking.{ticks, Expired}
 use Rattle.boss_expiry.proofs.Beating.{expired-added}
 use Rattle.boss_drive.specs.Driving.{Stand}
 use Rattle.def_guards.specs.Guards.{is_guarded}
+use Rattle.boss_keys.specs.declared.entry.Entry.{Entry as KeyEntry}
 use Rattle.boss_worker.specs.declared.flags.Flags.{Flags}
 use Rattle.boss_worker.specs.declared.trouble.Trouble.{Trouble}
 use Rattle.boss_worker.specs.declared.trouble.Trouble.TheVariants.{Disk}
@@ -48,27 +49,27 @@ pub calls-driven : (driver : ℕ) (waited : Waited) (course : Course) (was old n
 calls-driven driver waited course was old new more same grew =
     grew ∙ ap (λ front. front ++ more) (sym same) ∙ ap (λ behind. was ++ behind) (sym (calls-one driver more waited course [] [] (tt, tt)))
 
-module _ (catalogue : Catalogue) (gates : List Gate) (workers number : ℕ) (heeds tells hosting clocking pausing : Type 0) (own own' seen : List Entry) (given given' : List ℕ) (misses misses' pauses most before now : ℕ)
+module _ (catalogue : Catalogue) (gates : List Gate) (keys : Option (List KeyEntry)) (workers number : ℕ) (heeds tells hosting clocking pausing : Type 0) (own own' seen : List Entry) (given given' : List ℕ) (misses misses' pauses most before now : ℕ)
     (waited : Waited) (end : WorkEnd) (flags : Flags) (empty : own ≡ []) (no_moment : clocking → given ≡ []) (no_pause : pausing → pauses ≡ 0) (no_miss : misses ≡ 0) (unmarked : flags ≡ no_flags)
     (clock : ClockCause misses misses' end) (cause : EndCause seen pausing waited.closed before now end) where
   pub left-time : number ≡ workers → Expired own own' clocking given given' pausing pauses waited.pauses most end →
-      (course : Course) × (course.cut ≡ cut_of end) × Left true (terms_of catalogue gates workers heeds tells hosting clocking pausing) number 0 (beat waited course ∷ []) own' seen [] [] [] given' 0 0 misses' (flags_after (trouble_of_work end) flags)
+      (course : Course) × (course.cut ≡ cut_of end) × Left true (terms_of catalogue gates keys workers heeds tells hosting clocking pausing) number 0 (beat waited course ∷ []) own' seen [] [] [] given' 0 0 misses' (flags_after (trouble_of_work end) flags)
   left-time owned expired =
       let adds = expired-added (actuators catalogue) clocking pausing own own' given given' pauses waited.pauses most end expired no_pause in
       let course : Course = record { moments = adds.0; cut = cut_of end; closed = false } in (
         course,
         refl,
-        left-one (terms_of catalogue gates workers heeds tells hosting clocking pausing) number (beat waited course) own own' seen given given' misses misses' flags (trouble_of_work end)
+        left-one (terms_of catalogue gates keys workers heeds tells hosting clocking pausing) number (beat waited course) own own' seen given given' misses misses' flags (trouble_of_work end)
             adds.1 (ap deeds empty) no_moment no_miss unmarked refl (cut-worked end) (subst (IsMarked (flags_after (trouble_of_work end) flags)) (sym (cut-worked end)) (marked-after (trouble_of_work end) flags)) owned
             (clock-worked end misses misses' clock) (λ is. broken-worked end seen pausing waited.closed before now cause is),
       )
 
-module _ (catalogue : Catalogue) (gates : List Gate) (workers number : ℕ) (heeds tells hosting clocking recording pausing : Type 0) (old new : Stand) (seen : List Entry) (misses misses' : ℕ)
+module _ (catalogue : Catalogue) (gates : List Gate) (keys : Option (List KeyEntry)) (workers number : ℕ) (heeds tells hosting clocking recording pausing : Type 0) (old new : Stand) (seen : List Entry) (misses misses' : ℕ)
     (waited : Waited) (trouble : Trouble) (flags : Flags) (empty : old.own ≡ []) (no_moment : clocking → old.given ≡ []) (no_miss : misses ≡ 0) (unmarked : flags ≡ no_flags)
     (clock : ClockTrouble misses misses' trouble) (broken : trouble ≡ Disk → is_broken seen ≡ true) (driver : ℕ) (drove : Drove catalogue driver clocking recording old new pausing waited.pauses trouble) where
   pub left-driven : number ≡ workers + 1 + driver →
-      Left true (terms_of catalogue gates workers heeds tells hosting clocking pausing) number 0 (drive driver drove.calls waited drove.course ∷ []) new.own seen [] [] [] new.given 0 0 misses' (flags_after trouble flags)
-  left-driven owned = left-one (terms_of catalogue gates workers heeds tells hosting clocking pausing) number (drive driver drove.calls waited drove.course) old.own new.own seen old.given new.given misses misses' flags trouble
+      Left true (terms_of catalogue gates keys workers heeds tells hosting clocking pausing) number 0 (drive driver drove.calls waited drove.course ∷ []) new.own seen [] [] [] new.given 0 0 misses' (flags_after trouble flags)
+  left-driven owned = left-one (terms_of catalogue gates keys workers heeds tells hosting clocking pausing) number (drive driver drove.calls waited drove.course) old.own new.own seen old.given new.given misses misses' flags trouble
       drove.added (ap deeds empty) no_moment no_miss unmarked refl drove.cut_is (subst (IsMarked (flags_after trouble flags)) (sym drove.cut_is) (marked-after trouble flags)) owned clock broken
 
   pub driven-ended : (most : ℕ) → last_number ≤ most → WasTold old.own new.own pausing waited.closed most trouble → pausing →

@@ -32,6 +32,7 @@ use Rattle.boss_watching.specs.declared.end.WatchEnd.{WatchEnd}
 use Rattle.boss_watching.specs.declared.end.WatchEnd.TheVariants as watch
 use Rattle.boss_watching.specs.Ends.{is_closed_end, is_unanswered_end, HasCalled, IdleCause, Lasted, WriteCause as WroteOf}
 use Rattle.boss_watching.specs.Notes.{notes}
+use Rattle.boss_keys.specs.declared.entry.Entry.{Entry as KeyEntry}
 use Rattle.boss_worker.specs.declared.trouble.Trouble.{Trouble}
 use Rattle.boss_worker.specs.Saying.{IsVisit}
 use Rattle.boss_worker.specs.Troubles.{trouble_of, trouble_of_watch, course_by, cut_by}
@@ -43,6 +44,7 @@ cut-trouble session.ReadFault = refl
 cut-trouble session.WriteFault = refl
 cut-trouble session.ClockFault = refl
 cut-trouble session.TooLong = refl
+cut-trouble session.WrongKey = refl
 cut-trouble session.Limit = refl
 cut-trouble session.Stopped = refl
 cut-trouble session.DiskFault = refl
@@ -112,31 +114,31 @@ watch-ends mid own' more pausing pauses pauses' before faults end none grew last
 longer-some : (old new more : List Entry) → new ≡ old ++ more → length old < length new → ¬ (more ≡ [])
 longer-some old new more grew longer none = let same : length new ≡ length old = ap length (grew ∙ ap (λ rest. old ++ rest) none ∙ append-nil old) in omega (arith, same)
 
-module _ (catalogue : Catalogue) (gates : List Gate) (heeds tells ticks : Type 0) (served : Served) (some : 0 < served.session) (bytes : List ℕ) (held : heeds → served.held ≡ bytes)
+module _ (catalogue : Catalogue) (gates : List Gate) (keys : Option (List KeyEntry)) (heeds tells ticks : Type 0) (served : Served) (some : 0 < served.session) (bytes : List ℕ) (held : heeds → served.held ≡ bytes)
     (own own' : List Entry) (before : List ℕ) (count : ℕ) (empty : before ≡ []) (quiet : count ≡ 0) (given given' : List ℕ) where
   -- a connection that was served up to its end
   pub talk-visit : (begun : Option (List ReadAt)) (reads : ℕ) (end : SessionEnd) → IsUnread begun →
-      (connected : Connected (speech_of catalogue gates) served.session heeds tells ticks bytes served.left begun served.reads
+      (connected : Connected (speech_of catalogue gates keys) served.session heeds tells ticks bytes served.left begun served.reads
       (standing own before count given false 0) (standing own' served.taken served.write_faults given' false 0) end) →
       reads ≡ 0 → ReadCause reads served.read_faults (Some end) → WriteCause count served.write_faults (Some end) → is_watch end ≡ false →
-      Added (actuators catalogue) (of_session served.session) (λ entries. heeds → IsVisit catalogue gates tells served (course_by connected.talked.moments (trouble_of end) false) entries) ticks connected.talked.moments own own' given given'
+      Added (actuators catalogue) (of_session served.session) (λ entries. heeds → IsVisit catalogue gates keys tells served (course_by connected.talked.moments (trouble_of end) false) entries) ticks connected.talked.moments own own' given given'
   talk-visit begun reads end unheard connected unread read write watched =
-      talk-says (actuators catalogue) (speech_of catalogue gates) served.session tells ticks some (spoken_of connected.taken) connected.stop (is_stop_end end)
+      talk-says (actuators catalogue) (speech_of catalogue gates keys) served.session tells ticks some (spoken_of connected.taken) connected.stop (is_stop_end end)
       (standing own before count given false 0) (standing own' served.taken served.write_faults given' false 0) connected.talked
-      (λ entries. heeds → IsVisit catalogue gates tells served (course_by connected.talked.moments (trouble_of end) false) entries) (λ told. inl (talk-of told))
+      (λ entries. heeds → IsVisit catalogue gates keys tells served (course_by connected.talked.moments (trouble_of end) false) entries) (λ told. inl (talk-of told))
     where
-      answered : heeds → tells → AllRead (IsAnswered (speech_of catalogue gates) served.held 0 connected.talked.exchanged.talk) served.reads
+      answered : heeds → tells → AllRead (IsAnswered (speech_of catalogue gates keys) served.held 0 connected.talked.exchanged.talk) served.reads
       answered told now =
-          subst (λ b. AllRead (IsAnswered (speech_of catalogue gates) b 0 connected.talked.exchanged.talk) served.reads) (sym (held told))
-          (subst (λ n. AllRead (IsAnswered (speech_of catalogue gates) bytes n connected.talked.exchanged.talk) served.reads) (ap length empty)
-          (notes-all (IsAnswered (speech_of catalogue gates) bytes (length before) connected.talked.exchanged.talk) begun served.reads unheard (connected.answered told now)))
+          subst (λ b. AllRead (IsAnswered (speech_of catalogue gates keys) b 0 connected.talked.exchanged.talk) served.reads) (sym (held told))
+          (subst (λ n. AllRead (IsAnswered (speech_of catalogue gates keys) bytes n connected.talked.exchanged.talk) served.reads) (ap length empty)
+          (notes-all (IsAnswered (speech_of catalogue gates keys) bytes (length before) connected.talked.exchanged.talk) begun served.reads unheard (connected.answered told now)))
 
-      talk-of : heeds → IsTalkOf (speech_of catalogue gates) tells served (course_by connected.talked.moments (trouble_of end) false) connected.talked.more
+      talk-of : heeds → IsTalkOf (speech_of catalogue gates keys) tells served (course_by connected.talked.moments (trouble_of end) false) connected.talked.more
       talk-of told =
           let lost : Lost served.held served.left connected.taken connected.stop =
           subst (λ b. Lost b served.left connected.taken connected.stop) (sym (held told)) (connected.lost told) in
-          let said = exchanged-fresh (speech_of catalogue gates) served.session tells (spoken_of connected.taken) connected.stop (is_stop_end end) before served.taken count served.write_faults
-          connected.talked.more connected.talked.moments empty quiet (λ talk. tells → AllRead (IsAnswered (speech_of catalogue gates) served.held 0 talk) served.reads)
+          let said = exchanged-fresh (speech_of catalogue gates keys) served.session tells (spoken_of connected.taken) connected.stop (is_stop_end end) before served.taken count served.write_faults
+          connected.talked.more connected.talked.moments empty quiet (λ talk. tells → AllRead (IsAnswered (speech_of catalogue gates keys) served.held 0 talk) served.reads)
           connected.talked.exchanged (answered told) in
           record {
             taken = connected.taken;
@@ -152,41 +154,41 @@ module _ (catalogue : Catalogue) (gates : List Gate) (heeds tells ticks : Type 0
 
   -- the talk stopped since its first line asked to watch
   talked-watch : (begun reads : Option (List ReadAt)) (mid : List Entry) (between : List ℕ) (counted : ℕ) (gave : List ℕ) (name : List ℕ) (from : ℕ) →
-      (connected : Connected (speech_of catalogue gates) served.session heeds tells ticks bytes served.left begun reads (standing own before count given false 0) (standing mid between counted gave false 0) (session.Watch name from)) →
-      (talked : Talked (speech_of catalogue gates) served.session tells ticks (spoken_of connected.taken) (watching name from) false (standing own before count given false 0) (standing mid between counted gave false 0))
+      (connected : Connected (speech_of catalogue gates keys) served.session heeds tells ticks bytes served.left begun reads (standing own before count given false 0) (standing mid between counted gave false 0) (session.Watch name from)) →
+      (talked : Talked (speech_of catalogue gates keys) served.session tells ticks (spoken_of connected.taken) (watching name from) false (standing own before count given false 0) (standing mid between counted gave false 0))
       × (talked.moments ≡ connected.talked.moments)
   talked-watch begun reads mid between counted gave name from connected =
-      subst (λ stop. (talked : Talked (speech_of catalogue gates) served.session tells ticks (spoken_of connected.taken) stop false (standing own before count given false 0) (standing mid between counted gave false 0))
+      subst (λ stop. (talked : Talked (speech_of catalogue gates keys) served.session tells ticks (spoken_of connected.taken) stop false (standing own before count given false 0) (standing mid between counted gave false 0))
       × (talked.moments ≡ connected.talked.moments)) (watch-stop name from connected.stop (connected.end_is refl)) (connected.talked, refl)
 
   -- a connection whose first line asked to watch, and which then did
   pub watch-visit : (begun reads : Option (List ReadAt)) (mid : List Entry) (between : List ℕ) (counted : ℕ) (gave : List ℕ) (name : List ℕ) (from : ℕ) (end : WatchEnd) (pausing : Type 0) (pauses pauses' : ℕ) →
-      (connected : Connected (speech_of catalogue gates) served.session heeds tells ticks bytes served.left begun reads (standing own before count given false 0) (standing mid between counted gave false 0) (session.Watch name from)) →
+      (connected : Connected (speech_of catalogue gates keys) served.session heeds tells ticks bytes served.left begun reads (standing own before count given false 0) (standing mid between counted gave false 0) (session.Watch name from)) →
       counted ≡ count → (watched : Watched (notes catalogue) served.session name tells ticks (is_unanswered_end end) from (standing mid between counted gave false 0) (standing own' served.taken served.write_faults given' false 0)) →
       HasCalled watch_idle mid own' end → Lasted watch_idle mid own' pausing pauses pauses' end → WroteOf counted served.write_faults end →
-      Added (actuators catalogue) (of_session served.session) (λ entries. heeds → IsVisit catalogue gates tells served (course_by watched.moments (trouble_of_watch end) (is_closed_end end)) entries) ticks watched.moments own own' given given'
+      Added (actuators catalogue) (of_session served.session) (λ entries. heeds → IsVisit catalogue gates keys tells served (course_by watched.moments (trouble_of_watch end) (is_closed_end end)) entries) ticks watched.moments own own' given given'
   watch-visit begun reads mid between counted gave name from end pausing pauses pauses' connected calm watched called lasted wrote =
-      let silent = talk-silent (speech_of catalogue gates) served.session tells ticks (spoken_of connected.taken) name from false (standing own before count given false 0)
+      let silent = talk-silent (speech_of catalogue gates keys) served.session tells ticks (spoken_of connected.taken) name from false (standing own before count given false 0)
       (standing mid between counted gave false 0) (talked-watch begun reads mid between counted gave name from connected).0 in
-      subst (λ moments. Added (actuators catalogue) (of_session served.session) (λ entries. heeds → IsVisit catalogue gates tells served (course_by watched.moments (trouble_of_watch end) (is_closed_end end)) entries) ticks moments own own' given given')
+      subst (λ moments. Added (actuators catalogue) (of_session served.session) (λ entries. heeds → IsVisit catalogue gates keys tells served (course_by watched.moments (trouble_of_watch end) (is_closed_end end)) entries) ticks moments own own' given given')
       (ap (λ none. none ++ watched.moments) (sym (talked-watch begun reads mid between counted gave name from connected).1 ∙ silent.2))
       (added-then (actuators catalogue) (of_session served.session) ticks connected.talked.moments watched.moments (λ entries. entries ≡ [])
       (λ more. (deeds own' ≡ deeds mid ++ more) × Noticed (notes catalogue) served.session name tells (is_unanswered_end end) from between served.taken counted served.write_faults more watched.moments)
-      (λ entries. heeds → IsVisit catalogue gates tells served (course_by watched.moments (trouble_of_watch end) (is_closed_end end)) entries)
+      (λ entries. heeds → IsVisit catalogue gates keys tells served (course_by watched.moments (trouble_of_watch end) (is_closed_end end)) entries)
       (λ none more nothing said told. inr (watch-of silent.1 (none ++ more) more (ap (λ front. front ++ more) nothing) said.0 said.1 told))
       own mid own' given gave given'
       (added-nothing (actuators catalogue) (of_session served.session) ticks (λ entries. entries ≡ []) own mid given gave connected.talked.moments silent.0 refl connected.talked.gave)
-      (grown (watch-added (actuators catalogue) (speech_of catalogue gates) served.session tells ticks some (notes catalogue) (is_unanswered_end end) name from (standing mid between counted gave false 0)
+      (grown (watch-added (actuators catalogue) (speech_of catalogue gates keys) served.session tells ticks some (notes catalogue) (is_unanswered_end end) name from (standing mid between counted gave false 0)
       (standing own' served.taken served.write_faults given' false 0) watched)))
     where
       watch-of : (tells → between ≡ before) → (all more : List Entry) → all ≡ more → deeds own' ≡ deeds mid ++ more →
           Noticed (notes catalogue) served.session name tells (is_unanswered_end end) from between served.taken counted served.write_faults more watched.moments → heeds →
-          IsWatchOf (speech_of catalogue gates) (notes catalogue) tells served (course_by watched.moments (trouble_of_watch end) (is_closed_end end)) all
+          IsWatchOf (speech_of catalogue gates keys) (notes catalogue) tells served (course_by watched.moments (trouble_of_watch end) (is_closed_end end)) all
       watch-of same all more is grew noticed told =
           let is_watching = watch-stop name from connected.stop (connected.end_is refl) in
           let lost : Lost served.held served.left connected.taken (watching name from) =
           subst (λ stop. Lost served.held served.left connected.taken stop) is_watching (subst (λ b. Lost b served.left connected.taken connected.stop) (sym (held told)) (connected.lost told)) in
-          let first = watch-line (speech_of catalogue gates) (spoken_of connected.taken) name from _ _ _ (talked-watch begun reads mid between counted gave name from connected).0.exchanged.leaves in
+          let first = watch-line (speech_of catalogue gates keys) (spoken_of connected.taken) name from _ _ _ (talked-watch begun reads mid between counted gave name from connected).0.exchanged.leaves in
           record {
             name = name;
             from = from;
@@ -216,9 +218,9 @@ module _ (catalogue : Catalogue) (gates : List Gate) (heeds tells ticks : Type 0
       }
 
 -- what a connection added was called at moments that the clock gave for it
-pub visit-timed : (catalogue : Catalogue) (gates : List Gate) (heeds tells ticks : Type 0) (served : Served) (trouble : Trouble) (closed : Bool) (moments : List ℕ) (own own' : List Entry) (given given' : List ℕ) →
-    Added (actuators catalogue) (of_session served.session) (λ entries. heeds → IsVisit catalogue gates tells served (course_by moments trouble closed) entries) ticks moments own own' given given' →
-    Added (actuators catalogue) (of_session served.session) (λ entries. AreTimed moments entries × (heeds → IsVisit catalogue gates tells served (course_by moments trouble closed) entries)) ticks moments own own' given given'
-visit-timed catalogue gates heeds tells ticks served trouble closed moments own own' given given' added =
-    added-says (actuators catalogue) (of_session served.session) ticks moments (λ entries. heeds → IsVisit catalogue gates tells served (course_by moments trouble closed) entries)
-    (λ entries. AreTimed moments entries × (heeds → IsVisit catalogue gates tells served (course_by moments trouble closed) entries)) (λ more timed said. (timed, said)) own own' given given' added
+pub visit-timed : (catalogue : Catalogue) (gates : List Gate) (keys : Option (List KeyEntry)) (heeds tells ticks : Type 0) (served : Served) (trouble : Trouble) (closed : Bool) (moments : List ℕ) (own own' : List Entry) (given given' : List ℕ) →
+    Added (actuators catalogue) (of_session served.session) (λ entries. heeds → IsVisit catalogue gates keys tells served (course_by moments trouble closed) entries) ticks moments own own' given given' →
+    Added (actuators catalogue) (of_session served.session) (λ entries. AreTimed moments entries × (heeds → IsVisit catalogue gates keys tells served (course_by moments trouble closed) entries)) ticks moments own own' given given'
+visit-timed catalogue gates keys heeds tells ticks served trouble closed moments own own' given given' added =
+    added-says (actuators catalogue) (of_session served.session) ticks moments (λ entries. heeds → IsVisit catalogue gates keys tells served (course_by moments trouble closed) entries)
+    (λ entries. AreTimed moments entries × (heeds → IsVisit catalogue gates keys tells served (course_by moments trouble closed) entries)) (λ more timed said. (timed, said)) own own' given given' added

@@ -1,5 +1,5 @@
 -- What a worker left that was ready, by its duty.
-use Rattle.std.proofs.Common.{arith, ◌≡◌, ℕ, ◌≤◌, true, false, [], ◌∷◌, refl, ap, sym, ◌∙◌, subst, append-nil}
+use Rattle.std.proofs.Common.{arith, ◌≡◌, ℕ, ◌≤◌, true, false, [], ◌∷◌, refl, ap, sym, ◌∙◌, subst, append-nil, List, Option}
 use Rattle.std.specs.declared.snapshot.Snapshot.{Snapshot}
 use Rattle.boss_model.specs.Catalogue.{actuators as points_of, Catalogue}
 use Rattle.boss_model.specs.Limits.{last_number}
@@ -19,6 +19,7 @@ use Rattle.boss_expiry.specs.declared.end.WorkEnd.{WorkEnd}
 use Rattle.boss_expiry.specs.Ends.{ClockCause, EndCause}
 use Rattle.boss_expiry.specs.Ticking.{Expired}
 use Rattle.boss_drive.specs.Driving.{Stand}
+use Rattle.boss_keys.specs.declared.entry.Entry.{Entry as KeyEntry}
 use Rattle.boss_worker.specs.declared.duty.Duty.{Duty}
 use Rattle.boss_worker.specs.declared.duty.Duty.TheVariants.{Connections, Time, Devices}
 use Rattle.boss_worker.specs.declared.flags.Flags.{Flags}
@@ -66,7 +67,7 @@ module _ {H In Out A : Type 0} (h : host.Ghosts H In Out) (workers number : ℕ)
   fresh-calls a Time fresh = tt
   fresh-calls a (Devices driver devices was) fresh = λ told whole. ap a.calls (sym fresh.1) ∙ sym (append-nil (a.calls was.value))
 
-module _ {G Pass H In Out C W Bells A : Type 0} (g : desk.Ghosts G Pass) (h : host.Ghosts H In Out) (k : clock.Ghosts C) (w : waiter.Ghosts W Bells) (a : actuators.Ghosts A) (catalogue : Catalogue) (heeds tells : Type 0)
+module _ {G Pass H In Out C W Bells A : Type 0} (g : desk.Ghosts G Pass) (h : host.Ghosts H In Out) (k : clock.Ghosts C) (w : waiter.Ghosts W Bells) (a : actuators.Ghosts A) (catalogue : Catalogue) (keys : Option (List KeyEntry)) (heeds tells : Type 0)
     (it : G) (workers number : ℕ) (pass : Pass) (duty : Duty H A) (tick : C) (wait : W) (flags : Flags) (ready : IsReady g h k w a catalogue it workers number pass duty tick wait flags) where
   -- a worker that listens at a bell, and has not paused yet
   module _ (bell : ℕ) (tuned : W) (listened : w.tells → w.waited tuned ≡ listening bell (w.waited wait)) where
@@ -76,12 +77,12 @@ module _ {G Pass H In Out C W Bells A : Type 0} (g : desk.Ghosts G Pass) (h : ho
     pub no-pause : w.tells → (w.waited tuned).pauses ≡ 0
     no-pause told = ap (λ (it : Waited). it.pauses) (tuned-fresh told)
 
-  pub has-left-nothing : (wait' : W) → (w.tells → WaitedAt workers number [] (w.waited wait')) → HasLeft g h k w a false (terms_of catalogue (g.denies it) workers heeds tells h.tells k.tells w.tells) it number pass duty tick wait' flags
+  pub has-left-nothing : (wait' : W) → (w.tells → WaitedAt workers number [] (w.waited wait')) → HasLeft g h k w a false (terms_of catalogue (g.denies it) keys workers heeds tells h.tells k.tells w.tells) it number pass duty tick wait' flags
   has-left-nothing wait' waits = record {
     own = ready.own;
     one = ready.one;
     works = [];
-    left = left-nothing (terms_of catalogue (g.denies it) workers heeds tells h.tells k.tells w.tells) number (share_at h duty) (own_of g pass) (g.seen pass) (served_at h duty) (k.given tick)
+    left = left-nothing (terms_of catalogue (g.denies it) keys workers heeds tells h.tells k.tells w.tells) number (share_at h duty) (own_of g pass) (g.seen pass) (served_at h duty) (k.given tick)
         (handed_at h duty) (faults_at h duty) (k.faults tick) flags (ap deeds ready.empty) (fresh-served h workers number duty ready.fresh) ready.given
         (fresh-handed h workers number duty ready.fresh) (fresh-faults h workers number duty ready.fresh) ready.clock_faults ready.unmarked;
     called = fresh-calls h workers number a duty ready.fresh;
@@ -95,12 +96,12 @@ module _ {G Pass H In Out C W Bells A : Type 0} (g : desk.Ghosts G Pass) (h : ho
   module _ (pass' : Pass) (tick' : C) (tuned wait' : W) (listened : w.tells → w.waited tuned ≡ listening time_bell (w.waited wait)) (most : ℕ) (enough : last_number ≤ most) (end : WorkEnd) (own : g.owns it pass') (parts : g.parts pass' ≡ g.parts pass) (clock : ClockCause (k.faults tick) (k.faults tick') end)
       (cause : EndCause (g.seen pass') w.tells (w.waited wait').closed (w.closes tuned) (w.closes wait') end) (paused : w.tells → PausedFor tick_pause (w.waited tuned) (w.waited wait')) where
     pub has-left-time : duty ≡ Time → Expired (own_of g pass) (own_of g pass') k.tells (k.given tick) (k.given tick') w.tells (w.waited tuned).pauses (w.waited wait').pauses most end →
-        HasLeft g h k w a true (terms_of catalogue (g.denies it) workers heeds tells h.tells k.tells w.tells) it number pass' duty tick' wait' (flags_after (trouble_of_work end) flags)
+        HasLeft g h k w a true (terms_of catalogue (g.denies it) keys workers heeds tells h.tells k.tells w.tells) it number pass' duty tick' wait' (flags_after (trouble_of_work end) flags)
     has-left-time is expired =
-        let left = left-time catalogue (g.denies it) workers number heeds tells h.tells k.tells w.tells (own_of g pass) (own_of g pass') (g.seen pass') (k.given tick) (k.given tick') (k.faults tick) (k.faults tick')
+        let left = left-time catalogue (g.denies it) keys workers number heeds tells h.tells k.tells w.tells (own_of g pass) (own_of g pass') (g.seen pass') (k.given tick) (k.given tick') (k.faults tick) (k.faults tick')
         (w.waited tuned).pauses most (w.closes tuned) (w.closes wait') (w.waited wait') end flags ready.empty ready.given (no-pause time_bell tuned listened) ready.clock_faults ready.unmarked clock cause
         (subst (IsFreshDuty h workers number) is ready.fresh) expired in
-        subst (λ d. HasLeft g h k w a true (terms_of catalogue (g.denies it) workers heeds tells h.tells k.tells w.tells) it number pass' d tick' wait' (flags_after (trouble_of_work end) flags)) (sym is)
+        subst (λ d. HasLeft g h k w a true (terms_of catalogue (g.denies it) keys workers heeds tells h.tells k.tells w.tells) it number pass' d tick' wait' (flags_after (trouble_of_work end) flags)) (sym is)
         (record {
           own = own;
           one = parts ∙ ready.one;
@@ -125,7 +126,7 @@ module _ {G Pass H In Out C W Bells A : Type 0} (g : desk.Ghosts G Pass) (h : ho
         (w.tells → w.waited tuned ≡ listening (driver_bell driver) (w.waited wait)) → duty ≡ Devices driver devices was →
         Drove catalogue driver k.tells a.tells (record { own = own_of g pass; given = k.given tick; whole = a.whole devices; calls = a.calls devices })
         (record { own = own_of g pass'; given = k.given tick'; whole = a.whole devices'; calls = a.calls devices' }) w.tells (w.waited wait').pauses trouble →
-        HasLeft g h k w a true (terms_of catalogue (g.denies it) workers heeds tells h.tells k.tells w.tells) it number pass' (Devices driver devices' was) tick' wait' (flags_after trouble flags)
+        HasLeft g h k w a true (terms_of catalogue (g.denies it) keys workers heeds tells h.tells k.tells w.tells) it number pass' (Devices driver devices' was) tick' wait' (flags_after trouble flags)
     has-left-devices driver devices devices' was listened is drove =
         let fresh = subst (IsFreshDuty h workers number) is ready.fresh in
         let old : Stand = record { own = own_of g pass; given = k.given tick; whole = a.whole devices; calls = a.calls devices } in
@@ -134,7 +135,7 @@ module _ {G Pass H In Out C W Bells A : Type 0} (g : desk.Ghosts G Pass) (h : ho
           own = own;
           one = parts ∙ ready.one;
           works = drive driver drove.calls (w.waited wait') drove.course ∷ [];
-          left = left-driven catalogue (g.denies it) workers number heeds tells h.tells k.tells a.tells w.tells old new (g.seen pass') (k.faults tick) (k.faults tick') (w.waited wait') trouble flags
+          left = left-driven catalogue (g.denies it) keys workers number heeds tells h.tells k.tells a.tells w.tells old new (g.seen pass') (k.faults tick) (k.faults tick') (w.waited wait') trouble flags
               ready.empty ready.given ready.clock_faults ready.unmarked clock broken driver drove fresh.0;
           called = λ told whole. calls-driven driver (w.waited wait') drove.course (a.calls was.value) (a.calls devices) (a.calls devices') drove.calls (ap a.calls fresh.1) (drove.wrote told whole).1;
           noted = (refl, tt);
@@ -142,7 +143,7 @@ module _ {G Pass H In Out C W Bells A : Type 0} (g : desk.Ghosts G Pass) (h : ho
           placed = fresh.0;
           worked = λ ran low. worked-one workers number (drive driver drove.calls (w.waited wait') drove.course) fresh.0;
           ended = (
-            driven-ended catalogue (g.denies it) workers number heeds tells h.tells k.tells a.tells w.tells old new (g.seen pass') (k.faults tick) (k.faults tick') (w.waited wait') trouble flags
+            driven-ended catalogue (g.denies it) keys workers number heeds tells h.tells k.tells a.tells w.tells old new (g.seen pass') (k.faults tick) (k.faults tick') (w.waited wait') trouble flags
                 ready.empty ready.given ready.clock_faults ready.unmarked clock broken driver drove most enough was_told,
             tt,
           );

@@ -1,4 +1,4 @@
-ghost use Rattle.std.specs.Prelude.{◌≡◌, ◌<◌, ℕ, Bool, List, true, None};
+ghost use Rattle.std.specs.Prelude.{◌≡◌, ◌<◌, ℕ, Bool, List, true, None, option_copied};
 ghost use Rattle.boss_model.specs.Catalogue.{actuators};
 ghost use Rattle.boss_outside_server.specs.Pauses.{watch_pause};
 ghost use Rattle.def_history.specs.History.{is_broken};
@@ -14,6 +14,7 @@ ghost use Rattle.boss_worker.specs.Troubles.{course_by, ClockTrouble};
 
 use crate::Trouble;
 use crate::trouble::{session_trouble, watch_trouble};
+use boss_keys::Keys;
 use boss_model::SessionId;
 use boss_outside::{Hears, Sink, name_bell};
 use boss_outside_server::{Clock, Waiter};
@@ -30,6 +31,7 @@ pub(crate) fn attend<G: Desk, S: Hears<K>, K: Sink, C: Clock, W: Waiter>(
     desk: &G,
     pass: &mut G::Pass,
     catalogue: &Catalogue,
+    keys: Option<&Keys>,
     session: SessionId,
     input: &mut S,
     output: &mut K,
@@ -44,7 +46,7 @@ pub(crate) fn attend<G: Desk, S: Hears<K>, K: Sink, C: Clock, W: Waiter>(
     ensures own { G.owns desk.now pass.new }
     ensures parts { G.parts pass.new ≡ G.parts pass.old }
     ensures added { (moments : List ℕ) × (closed : Bool) × Added (actuators catalogue.now) (of_session session)
-        (λ entries. S.tells → IsVisit catalogue.now (G.denies desk.now) K.tells (served_of S.Source K.Sink session input.new output.new) (course_by moments result closed) entries)
+        (λ entries. S.tells → IsVisit catalogue.now (G.denies desk.now) (option_copied keys.entry) K.tells (served_of S.Source K.Sink session input.new output.new) (course_by moments result closed) entries)
         C.tells moments (own_of G.Desk pass.old) (own_of G.Desk pass.new) (C.given clock.old) (C.given clock.new)
         × (W.tells → HasClosed closed (W.waited waiter.old).closes (W.waited waiter.new).closes) }
     ensures others { LeavesOthers (G.denies desk.now) session (G.held pass.old) (G.held pass.new) }
@@ -52,7 +54,7 @@ pub(crate) fn attend<G: Desk, S: Hears<K>, K: Sink, C: Clock, W: Waiter>(
     ensures clocked { ClockTrouble (C.faults clock.old) (C.faults clock.new) result }
     ensures broken { result ≡ Disk → is_broken (G.seen pass.new) ≡ true }
 {
-    match serve_connection(alloc, desk, pass, catalogue, session, input, output, clock) {
+    match serve_connection(alloc, desk, pass, catalogue, keys, session, input, output, clock) {
         SessionEnd::Watch { name, from } => {
             waiter.listen(name_bell(&name));
             watch_trouble(watch_connection(

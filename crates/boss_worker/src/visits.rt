@@ -1,4 +1,4 @@
-ghost use Rattle.std.specs.Prelude.{◌≡◌, ◌<◌, ◌≤◌, [], List, true};
+ghost use Rattle.std.specs.Prelude.{◌≡◌, ◌<◌, ◌≤◌, [], List, true, option_copied};
 ghost use Rattle.boss_model.specs.Catalogue.{actuators};
 ghost use Rattle.boss_model.specs.Limits.{most_workers};
 ghost use Rattle.boss_outside_server.specs.Pauses.{watch_pause};
@@ -40,7 +40,7 @@ pub(crate) fn attend_all<G: Desk, H: Host, C: Clock, W: Waiter>(
     ensures own { G.owns server.now.desk pass.new }
     ensures parts { G.parts pass.new ≡ G.parts pass.old }
     ensures share { H.share host.new ≡ H.share host.old }
-    ensures left { (works : List Work) × Left true (terms_of server.now.catalogue.now (G.denies server.now.desk) server.now.workers H.In.tells H.Out.tells H.tells C.tells W.tells) number (H.share host.old) works
+    ensures left { (works : List Work) × Left true (terms_of server.now.catalogue.now (G.denies server.now.desk) (option_copied server.now.keys) server.now.workers H.In.tells H.Out.tells H.tells C.tells W.tells) number (H.share host.old) works
         (own_of G.Desk pass.new) (G.seen pass.new) (H.served host.old) (H.served host.new) (C.given clock.old) (C.given clock.new)
         (H.handed host.new) (H.faults host.new) (C.faults clock.new) result.0
         × (W.tells → CountsClosed works (W.waited waiter.new)) }
@@ -61,6 +61,7 @@ pub(crate) fn attend_all<G: Desk, H: Host, C: Clock, W: Waiter>(
                     &server.desk,
                     pass,
                     server.catalogue,
+                    server.keys,
                     session,
                     &mut input,
                     &mut output,

@@ -1,4 +1,4 @@
-ghost use Rattle.std.specs.Prelude.{◌≡◌, true, false};
+ghost use Rattle.std.specs.Prelude.{◌≡◌, true, false, option_copied};
 ghost use Rattle.boss_worker.specs.Saying.{terms_of};
 ghost use Rattle.boss_worker.specs.Workers.{HasLeft, IsReady, share_at, was_at};
 
@@ -37,12 +37,12 @@ impl<'a, G: Desk, H: Host, C: Clock, W: Waiter, A: Actuators + Drop> Task
 
     ghost ran = { λ old new. (new.server.now ≡ old.server.now) × (new.number ≡ old.number) × (share_at H.Host new.duty ≡ share_at H.Host old.duty)
         × (was_at new.duty ≡ was_at old.duty)
-        × HasLeft G.Desk H.Host C.Clock W.Waiter A.Actuators true (terms_of new.server.now.catalogue.now (G.denies new.server.now.desk) new.server.now.workers H.In.tells H.Out.tells H.tells C.tells W.tells)
+        × HasLeft G.Desk H.Host C.Clock W.Waiter A.Actuators true (terms_of new.server.now.catalogue.now (G.denies new.server.now.desk) (option_copied new.server.now.keys) new.server.now.workers H.In.tells H.Out.tells H.tells C.tells W.tells)
         new.server.now.desk new.number new.pass new.duty new.clock new.waiter new.flags };
 
     ghost abandoned = { λ old new. (new.server.now ≡ old.server.now) × (new.number ≡ old.number) × (share_at H.Host new.duty ≡ share_at H.Host old.duty)
         × (was_at new.duty ≡ was_at old.duty)
-        × HasLeft G.Desk H.Host C.Clock W.Waiter A.Actuators false (terms_of new.server.now.catalogue.now (G.denies new.server.now.desk) new.server.now.workers H.In.tells H.Out.tells H.tells C.tells W.tells)
+        × HasLeft G.Desk H.Host C.Clock W.Waiter A.Actuators false (terms_of new.server.now.catalogue.now (G.denies new.server.now.desk) (option_copied new.server.now.keys) new.server.now.workers H.In.tells H.Out.tells H.tells C.tells W.tells)
         new.server.now.desk new.number new.pass new.duty new.clock new.waiter new.flags };
 
     fn run(&mut self) {

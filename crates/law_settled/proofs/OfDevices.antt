@@ -21,10 +21,10 @@ use Rattle.law_settled.specs.Settled.{IsSettled, taking_target, last_from, last_
 use Rattle.law_settled.proofs.Agreeing.{last-append}
 use Rattle.law_settled.proofs.OfWorks.{work-of, works-opened, no-calls, last-any, back-at, at-front}
 
-module _ {A : Type 0} (calls : A → List DeviceCall) (whole : A → Type 0) (catalogue : Catalogue) (gates : List Gate) (heeds tells hosting clocking pausing : Type 0)
+module _ {A : Type 0} (calls : A → List DeviceCall) (whole : A → Type 0) (catalogue : Catalogue) (gates : List Gate) (keys : Option (List KeyEntry)) (heeds tells hosting clocking pausing : Type 0)
     (workers n shares : ℕ) (log seen : List Entry) (served served' : List Served) (given given' : List ℕ) (hosted hosted' : Hosted) (ticked ticked' : ℕ) (waits waits' : List Waited)
     (was others devices : List A) (flags : Flags) (unrun : Bool)
-    (account : Account calls whole (terms_of catalogue gates workers heeds tells hosting clocking pausing) pausing n shares log seen served served' given given' hosted hosted' ticked ticked'
+    (account : Account calls whole (terms_of catalogue gates keys workers heeds tells hosting clocking pausing) pausing n shares log seen served served' given given' hosted hosted' ticked ticked'
     waits waits' was others devices flags unrun) where
   -- a driver with a call has a device
   driven-below : (driver point : ℕ) (call : DeviceCall) → last_call point (calls_in driver account.works) ≡ Some call → driver < length was
@@ -54,10 +54,10 @@ module _ {A : Type 0} (calls : A → List DeviceCall) (whole : A → Type 0) (ca
       )
 
 -- the same over a keeper, which comes back as the history left it
-module _ {K A : Type 0} (k : keeper.Ghosts K) (calls : A → List DeviceCall) (whole : A → Type 0) (catalogue : Catalogue) (gates : List Gate) (heeds tells hosting clocking pausing : Type 0)
+module _ {K A : Type 0} (k : keeper.Ghosts K) (calls : A → List DeviceCall) (whole : A → Type 0) (catalogue : Catalogue) (gates : List Gate) (keys : Option (List KeyEntry)) (heeds tells hosting clocking pausing : Type 0)
     (workers n shares : ℕ) (start end : K) (served served' : List Served) (given given' : List ℕ) (hosted hosted' : Hosted) (ticked ticked' : ℕ) (waits waits' : List Waited)
     (was others devices : List A) (flags : Flags) (unrun : Bool)
-    (ran : Ran k calls whole (terms_of catalogue gates workers heeds tells hosting clocking pausing) pausing n shares start end served served' given given' hosted hosted' ticked ticked'
+    (ran : Ran k calls whole (terms_of catalogue gates keys workers heeds tells hosting clocking pausing) pausing n shares start end served served' given given' hosted hosted' ticked ticked'
     waits waits' was others devices flags unrun) where
   pub kept-last : (point : ℕ) (d : Persistent) → heeds → point < length (actuators catalogue) → actuators catalogue ≡ k.plant start → k.state start ≡ opened (actuators catalogue) d →
       k.stopped end ≡ false → IsSettled (k.state end) point →

@@ -122,14 +122,14 @@ module _ (P : Work → Type 0) (driver : ℕ) where
 
 -- ---- all works
 
-module _ (catalogue : Catalogue) (gates : List Gate) (heeds tells pausing : Type 0) (point : ℕ) (log : List Entry) (s : State) (works : List Work)
+module _ (catalogue : Catalogue) (gates : List Gate) (keys : Option (List KeyEntry)) (heeds tells pausing : Type 0) (point : ℕ) (log : List Entry) (s : State) (works : List Work)
     (known : point < length (actuators catalogue)) (legal : IsLegal (actuators catalogue) log s) (apart : AllByRecursion IsApart (deeds log))
-    (agreed : Agreed (actuators catalogue) (says catalogue gates heeds tells pausing) log works) where
+    (agreed : Agreed (actuators catalogue) (says catalogue gates keys heeds tells pausing) log works) where
   pub works-last : (value : ℤ) → (told_in point log (told_at s point)).took ≡ Some value → IsLast s point value (calls_in (driver_of (actuators catalogue) point) works)
   unfolding lane
   works-last value took =
       let driver = driver_of (actuators catalogue) point in
-      elim (work-of (λ work. says catalogue gates heeds tells pausing work (done_in (actuators catalogue) (lane_of_work work) log)) driver works agreed.apart agreed.each) [
+      elim (work-of (λ work. says catalogue gates keys heeds tells pausing work (done_in (actuators catalogue) (lane_of_work work) log)) driver works agreed.apart agreed.each) [
         | inl absent ↦ inr (
           ap (last_call point) (no-calls driver works absent agreed.apart),
           none-last catalogue point log s known legal apart value took (agreed.none (of_driver driver) absent),
@@ -153,9 +153,9 @@ worker-opened catalogue point log d calls pausing pauses course known legal apar
     let plant = actuators catalogue in
     last-opened plant point d _ calls known (worker-last catalogue point log (opened plant d) known legal apart _ (settled-opened plant point log d known legal settled) calls pausing pauses course is)
 
-pub works-opened : (catalogue : Catalogue) (gates : List Gate) (heeds tells pausing : Type 0) (point : ℕ) (log : List Entry) (d : Persistent) (works : List Work) →
+pub works-opened : (catalogue : Catalogue) (gates : List Gate) (keys : Option (List KeyEntry)) (heeds tells pausing : Type 0) (point : ℕ) (log : List Entry) (d : Persistent) (works : List Work) →
     heeds → point < length (actuators catalogue) → IsLegal (actuators catalogue) log (opened (actuators catalogue) d) →
-    Agreed (actuators catalogue) (says catalogue gates heeds tells pausing) log works → IsSettled (run (actuators catalogue) log (opened (actuators catalogue) d)) point →
+    Agreed (actuators catalogue) (says catalogue gates keys heeds tells pausing) log works → IsSettled (run (actuators catalogue) log (opened (actuators catalogue) d)) point →
     last_call point (calls_in (driver_of (actuators catalogue) point) works) ≡ Some (taking_target (actuators catalogue) (run (actuators catalogue) log (opened (actuators catalogue) d)) point)
 works-opened catalogue gates heeds tells pausing point log d works heard known legal agreed settled =
     let plant = actuators catalogue in
@@ -181,9 +181,9 @@ still-sound plant point s value calls same (inr none) =
     let at = settled-at (proxy_of s.proxies point).mark (proxy_of s.proxies point).commanded value none.1 in
     inr (none.0, at.0, sym same ∙ at.1)
 
-pub works-sound : (catalogue : Catalogue) (gates : List Gate) (heeds tells pausing : Type 0) (point : ℕ) (log : List Entry) (s : State) (works : List Work) →
+pub works-sound : (catalogue : Catalogue) (gates : List Gate) (keys : Option (List KeyEntry)) (heeds tells pausing : Type 0) (point : ℕ) (log : List Entry) (s : State) (works : List Work) →
     heeds → point < length (actuators catalogue) → IsSound (actuators catalogue) s → IsLegal (actuators catalogue) log s →
-    Agreed (actuators catalogue) (says catalogue gates heeds tells pausing) log works → IsSettled (run (actuators catalogue) log s) point →
+    Agreed (actuators catalogue) (says catalogue gates keys heeds tells pausing) log works → IsSettled (run (actuators catalogue) log s) point →
     IsStill (actuators catalogue) s point (target (actuators catalogue) (run (actuators catalogue) log s).persistent point) (calls_in (driver_of (actuators catalogue) point) works)
 works-sound catalogue gates heeds tells pausing point log s works heard known sound legal agreed settled =
     let plant = actuators catalogue in

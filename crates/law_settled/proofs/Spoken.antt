@@ -130,7 +130,7 @@ apart-watched session name from [] = tt
 apart-watched session name from (turn ∷ turns) =
     (apart-quiet session turn.0 (command.Notices (Some name) from 64) turn.1 refl, apart-watched session name (next_from from turn.1) turns)
 
-apart-visit : (catalogue : Catalogue) (gates : List Gate) (tells : Type 0) (served : Served) (course : Course) (entries : List Entry) → IsVisit catalogue gates tells served course entries →
+apart-visit : (catalogue : Catalogue) (gates : List Gate) (keys : Option (List KeyEntry)) (tells : Type 0) (served : Served) (course : Course) (entries : List Entry) → IsVisit catalogue gates keys tells served course entries →
     AllByRecursion IsApart entries
 apart-visit catalogue gates tells served course entries (inl talks) =
     subst (AllByRecursion IsApart) (sym talks.exchanged.all_entries)
@@ -141,11 +141,11 @@ apart-visit catalogue gates tells served course entries (inr watches) =
 
 -- ---- a history of which each connection agrees with its entries
 
-module _ (catalogue : Catalogue) (gates : List Gate) (heeds tells pausing : Type 0) (log : List Entry) (heard : heeds) where
+module _ (catalogue : Catalogue) (gates : List Gate) (keys : Option (List KeyEntry)) (heeds tells pausing : Type 0) (log : List Entry) (heard : heeds) where
   abbrev lane_entries : ℕ → List Entry
   lane_entries session = done_in (actuators catalogue) (of_session session) log
 
-  of-works : (session : ℕ) (works : List Work) → AllByRecursion (λ work. says catalogue gates heeds tells pausing work (done_in (actuators catalogue) (lane_of_work work) log)) works →
+  of-works : (session : ℕ) (works : List Work) → AllByRecursion (λ work. says catalogue gates keys heeds tells pausing work (done_in (actuators catalogue) (lane_of_work work) log)) works →
       IsAbsent (of_session session) works ⊎ AllByRecursion IsApart (lane_entries session)
   of-works session [] each = inl tt
   of-works session (visit served course ∷ works) each = by (served.session == session) refl (of-works session works each.1)
@@ -167,7 +167,7 @@ module _ (catalogue : Catalogue) (gates : List Gate) (heeds tells pausing : Type
     | inr apart ↦ inr apart
   ]
 
-  session-apart : (session : ℕ) (works : List Work) → Agreed (actuators catalogue) (says catalogue gates heeds tells pausing) log works → AllByRecursion IsApart (lane_entries session)
+  session-apart : (session : ℕ) (works : List Work) → Agreed (actuators catalogue) (says catalogue gates keys heeds tells pausing) log works → AllByRecursion IsApart (lane_entries session)
   session-apart session works agreed = elim (of-works session works agreed.each) [
     | inl absent ↦ subst (AllByRecursion IsApart) (sym (agreed.none (of_session session) absent)) tt
     | inr apart ↦ apart
@@ -200,5 +200,5 @@ module _ (catalogue : Catalogue) (gates : List Gate) (heeds tells pausing : Type
         (λ other. all-behind (in_lane plant (of_session other) (Broke session commands others)) (Broke session commands others) (filter (in_lane plant (of_session other)) xs) (all other)),
   )
 
-  pub all-apart : (works : List Work) → Agreed (actuators catalogue) (says catalogue gates heeds tells pausing) log works → AllByRecursion IsApart (deeds log)
+  pub all-apart : (works : List Work) → Agreed (actuators catalogue) (says catalogue gates keys heeds tells pausing) log works → AllByRecursion IsApart (deeds log)
   all-apart works agreed = of-lanes (actuators catalogue) (deeds log) (λ session. session-apart session works agreed)

@@ -34,9 +34,9 @@ use boss_shared::Keeper;
 /// unsettled, and so does a write that failed.
 pub fn a_settled_point_has_what_its_device_took<H: Host, W: Waiter>()
     // of all that a server's workers did, where the inputs of its connections tell their bytes
-    ensures served { (catalogue : Catalogue) (gates : List Gate) (d : Persistent) (log : List Entry) (works : List Work) (point : ℕ) →
+    ensures served { (catalogue : Catalogue) (gates : List Gate) (keys : Option (List KeyEntry)) (d : Persistent) (log : List Entry) (works : List Work) (point : ℕ) →
         let plant = actuators catalogue in
-        H.In.tells → point < length plant → IsLegal plant log (opened plant d) → Agreed plant (says catalogue gates H.In.tells H.Out.tells W.tells) log works →
+        H.In.tells → point < length plant → IsLegal plant log (opened plant d) → Agreed plant (says catalogue gates keys H.In.tells H.Out.tells W.tells) log works →
         IsSettled (run plant log (opened plant d)) point →
         last_call point (calls_in (driver_of plant point) works) ≡ Some (taking_target plant (run plant log (opened plant d)) point) }
     // of one driver's worker, where no connection asks for wants or reports them
@@ -46,9 +46,9 @@ pub fn a_settled_point_has_what_its_device_took<H: Host, W: Waiter>()
         IsDriven (is_guarded catalogue driver) catalogue driver calls W.tells pauses course (done_in plant (of_driver driver) log) →
         IsSettled (run plant log (opened plant d)) point → last_call point calls ≡ Some (taking_target plant (run plant log (opened plant d)) point) }
     // from any sound state: that, or the point has no call, and was settled before with this target
-    ensures goes_on { (catalogue : Catalogue) (gates : List Gate) (s : State) (log : List Entry) (works : List Work) (point : ℕ) →
+    ensures goes_on { (catalogue : Catalogue) (gates : List Gate) (keys : Option (List KeyEntry)) (s : State) (log : List Entry) (works : List Work) (point : ℕ) →
         let plant = actuators catalogue in
-        H.In.tells → point < length plant → IsSound plant s → IsLegal plant log s → Agreed plant (says catalogue gates H.In.tells H.Out.tells W.tells) log works →
+        H.In.tells → point < length plant → IsSound plant s → IsLegal plant log s → Agreed plant (says catalogue gates keys H.In.tells H.Out.tells W.tells) log works →
         IsSettled (run plant log s) point →
         (last_call point (calls_in (driver_of plant point) works) ≡ Some (taking_target plant (run plant log s) point))
         ⊎ ((last_call point (calls_in (driver_of plant point) works) ≡ None) × IsSettled s point
@@ -68,23 +68,23 @@ pub fn a_device_has_the_target_of_a_settled_point<
     W: Waiter,
     A: Actuators,
 >()
-    ensures account { (catalogue : Catalogue) (gates : List Gate) (workers n shares : ℕ) (d : Persistent) (log seen : List Entry)
+    ensures account { (catalogue : Catalogue) (gates : List Gate) (keys : Option (List KeyEntry)) (workers n shares : ℕ) (d : Persistent) (log seen : List Entry)
         (served served' : List Served) (given given' : List ℕ) (hosted hosted' : Hosted) (ticked ticked' : ℕ) (waits waits' : List Waited)
         (was others devices : List A) (flags : Flags) (unrun : Bool) (point : ℕ) →
         let plant = actuators catalogue in
         H.In.tells → point < length plant → IsLegal plant log (opened plant d) →
-        Account A.calls (λ device. A.tells × A.whole device) (terms_of catalogue gates workers H.In.tells H.Out.tells H.tells C.tells W.tells) W.tells n shares log seen
+        Account A.calls (λ device. A.tells × A.whole device) (terms_of catalogue gates keys workers H.In.tells H.Out.tells H.tells C.tells W.tells) W.tells n shares log seen
         served served' given given' hosted hosted' ticked ticked' waits waits' was others devices flags unrun →
         IsSettled (run plant log (opened plant d)) point →
         (device : A) × (slice_get devices (driver_of plant point) ≡ Some device)
         × (A.tells × A.whole device → last_call point (A.calls device) ≡ Some (taking_target plant (run plant log (opened plant d)) point)) }
     // over a keeper whose disk did not fail, by its state as it comes back
-    ensures kept { (catalogue : Catalogue) (gates : List Gate) (workers n shares : ℕ) (d : Persistent) (start end : K)
+    ensures kept { (catalogue : Catalogue) (gates : List Gate) (keys : Option (List KeyEntry)) (workers n shares : ℕ) (d : Persistent) (start end : K)
         (served served' : List Served) (given given' : List ℕ) (hosted hosted' : Hosted) (ticked ticked' : ℕ) (waits waits' : List Waited)
         (was others devices : List A) (flags : Flags) (unrun : Bool) (point : ℕ) →
         let plant = actuators catalogue in
         H.In.tells → point < length plant → plant ≡ K.plant start → K.state start ≡ opened plant d →
-        Ran K.Keeper A.calls (λ device. A.tells × A.whole device) (terms_of catalogue gates workers H.In.tells H.Out.tells H.tells C.tells W.tells) W.tells n shares start end
+        Ran K.Keeper A.calls (λ device. A.tells × A.whole device) (terms_of catalogue gates keys workers H.In.tells H.Out.tells H.tells C.tells W.tells) W.tells n shares start end
         served served' given given' hosted hosted' ticked ticked' waits waits' was others devices flags unrun →
         K.stopped end ≡ false → IsSettled (K.state end) point →
         (device : A) × (slice_get devices (driver_of plant point) ≡ Some device)
@@ -94,6 +94,6 @@ pub fn a_device_has_the_target_of_a_settled_point<
 /// No line of a connection asks for a want or reports one, and no connection that watches does: where the inputs of connections tell
 /// their bytes, wants are handed out and reported under session 0 alone.
 pub fn no_connection_serves_a_device<H: Host, W: Waiter>()
-    ensures { (catalogue : Catalogue) (gates : List Gate) (log : List Entry) (works : List Work) → H.In.tells →
-        Agreed (actuators catalogue) (says catalogue gates H.In.tells H.Out.tells W.tells) log works → AllByRecursion IsApart (deeds log) }
+    ensures { (catalogue : Catalogue) (gates : List Gate) (keys : Option (List KeyEntry)) (log : List Entry) (works : List Work) → H.In.tells →
+        Agreed (actuators catalogue) (says catalogue gates keys H.In.tells H.Out.tells W.tells) log works → AllByRecursion IsApart (deeds log) }
 {}

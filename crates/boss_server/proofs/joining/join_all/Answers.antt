@@ -1,4 +1,4 @@
-use Rattle.std.proofs.Common.{◌≡◌, ℕ, suc, Bool, ◌+◌, ◌-◌, ◌≤◌, ◌||◌, not, true, false, List, [], ◌∷◌, ◌++◌, length, refl, sym, ap, ◌∙◌, subst, arith, length-append, append-nil, append_assoc, rules}
+use Rattle.std.proofs.Common.{◌≡◌, ℕ, suc, Bool, ◌+◌, ◌-◌, ◌≤◌, ◌||◌, not, true, false, List, [], ◌∷◌, ◌++◌, length, refl, sym, ap, ◌∙◌, subst, arith, length-append, append-nil, append_assoc, rules, option_copied}
 use Rattle.std.proofs.lemmas.Grind.{common_steps}
 use Rattle.std.proofs.lemmas.List.{nil_from_length}
 use Rattle.boss_worker.specs.declared.flags.Flags.{Flags}
@@ -29,16 +29,16 @@ loop-ran-init g c =
       listens = λ told. refl;
       spawner = refl;
       left = subst (λ items. EachInTurn items 0 (λ ran number worker. (worker.server.now ≡ c.args.server.now) × (worker.number ≡ number)
-          × HasLeft g.G.Desk g.H.Host g.C.Clock g.W.Waiter g.A.Actuators ran (terms_of c.args.server.now.catalogue.now (g.G.Desk.denies c.args.server.now.desk) c.args.server.now.workers g.H.In.Source.tells g.H.Out.Sink.tells g.H.Host.tells g.C.Clock.tells g.W.Waiter.tells) c.args.server.now.desk number worker.pass worker.duty worker.clock worker.waiter worker.flags)) (sym same) c.requires.left;
+          × HasLeft g.G.Desk g.H.Host g.C.Clock g.W.Waiter g.A.Actuators ran (terms_of c.args.server.now.catalogue.now (g.G.Desk.denies c.args.server.now.desk) (option_copied c.args.server.now.keys) c.args.server.now.workers g.H.In.Source.tells g.H.Out.Sink.tells g.H.Host.tells g.C.Clock.tells g.W.Waiter.tells) c.args.server.now.desk number worker.pass worker.duty worker.clock worker.waiter worker.flags)) (sym same) c.requires.left;
       count = omega (arith, ap length same);
       shares = 0;
       all_shares = let e : shares_in c.into_iter-ran-iterator.result.rest.items (λ worker. share_at g.H.Host worker.duty) ≡ shares_in c.args.done.items (λ worker. share_at g.H.Host worker.duty) =
           ap (λ items. shares_in items (λ worker. share_at g.H.Host worker.duty)) same in omega (arith, e);
       works = [];
-      together = subst (λ flags. Together (terms_of c.args.server.now.catalogue.now (g.G.Desk.denies c.args.server.now.desk) c.args.server.now.workers g.H.In.Source.tells g.H.Out.Sink.tells g.H.Host.tells g.C.Clock.tells g.W.Waiter.tells) 0 0 [] (own_of g.G.Desk c.args.pass.now) (g.G.Desk.seen c.args.pass.now)
+      together = subst (λ flags. Together (terms_of c.args.server.now.catalogue.now (g.G.Desk.denies c.args.server.now.desk) (option_copied c.args.server.now.keys) c.args.server.now.workers g.H.In.Source.tells g.H.Out.Sink.tells g.H.Host.tells g.C.Clock.tells g.W.Waiter.tells) 0 0 [] (own_of g.G.Desk c.args.pass.now) (g.G.Desk.seen c.args.pass.now)
           (g.H.Host.served c.args.outside.now.host.now) (g.H.Host.served c.args.outside.now.host.now) (g.C.Clock.given c.args.outside.now.clock.now) (g.C.Clock.given c.args.outside.now.clock.now) (hosted_at g.H.Host c.args.outside.now.host.now) (hosted_at g.H.Host c.args.outside.now.host.now)
           (g.C.Clock.faults c.args.outside.now.clock.now) (g.C.Clock.faults c.args.outside.now.clock.now) flags false) (sym c.none-flags.ensures)
-          (together-first (terms_of c.args.server.now.catalogue.now (g.G.Desk.denies c.args.server.now.desk) c.args.server.now.workers g.H.In.Source.tells g.H.Out.Sink.tells g.H.Host.tells g.C.Clock.tells g.W.Waiter.tells) (own_of g.G.Desk c.args.pass.now) (g.G.Desk.seen c.args.pass.now) (g.H.Host.served c.args.outside.now.host.now) (g.C.Clock.given c.args.outside.now.clock.now)
+          (together-first (terms_of c.args.server.now.catalogue.now (g.G.Desk.denies c.args.server.now.desk) (option_copied c.args.server.now.keys) c.args.server.now.workers g.H.In.Source.tells g.H.Out.Sink.tells g.H.Host.tells g.C.Clock.tells g.W.Waiter.tells) (own_of g.G.Desk c.args.pass.now) (g.G.Desk.seen c.args.pass.now) (g.H.Host.served c.args.outside.now.host.now) (g.C.Clock.given c.args.outside.now.clock.now)
           (hosted_at g.H.Host c.args.outside.now.host.now) (g.C.Clock.faults c.args.outside.now.clock.now) (ap deeds c.requires.empty));
       was = [];
       back = [];
@@ -46,7 +46,7 @@ loop-ran-init g c =
       all_devices = ap (λ items. devices_in items (λ worker. was_at worker.duty)) same;
       room = let e : length (devices_in c.into_iter-ran-iterator.result.rest.items (λ worker. was_at worker.duty)) ≡ length (devices_in c.args.done.items (λ worker. was_at worker.duty)) =
           ap (λ items. length (devices_in items (λ worker. was_at worker.duty))) same in omega (arith, e, c.requires.room);
-      returned = returned-first g.A.Actuators.calls (λ device. g.A.Actuators.tells × g.A.Actuators.whole device) (terms_of c.args.server.now.catalogue.now (g.G.Desk.denies c.args.server.now.desk) c.args.server.now.workers g.H.In.Source.tells g.H.Out.Sink.tells g.H.Host.tells g.C.Clock.tells g.W.Waiter.tells) g.W.Waiter.tells (own_of g.G.Desk c.args.pass.now) (g.W.Waiter.waits c.args.outside.now.waiter.now);
+      returned = returned-first g.A.Actuators.calls (λ device. g.A.Actuators.tells × g.A.Actuators.whole device) (terms_of c.args.server.now.catalogue.now (g.G.Desk.denies c.args.server.now.desk) (option_copied c.args.server.now.keys) c.args.server.now.workers g.H.In.Source.tells g.H.Out.Sink.tells g.H.Host.tells g.C.Clock.tells g.W.Waiter.tells) g.W.Waiter.tells (own_of g.G.Desk c.args.pass.now) (g.W.Waiter.waits c.args.outside.now.waiter.now);
       unrun = ap is_any_unrun same;
     }
 
@@ -54,18 +54,18 @@ pub join_one-requires-clause-own : goal.join_one-requires-clause-own
 join_one-requires-clause-own g c =
     let step : c.loop-ran.ran-iterator.rest.items ≡ c.in-Some.ran ∷ c.next.new.self.rest.items = c.in-Some.ensures.steps.0 in
     let facts = each-first c.in-Some.ran c.next.new.self.rest.items (length c.loop-ran.yielded) (λ ran number worker. (worker.server.now ≡ c.args.server.now) × (worker.number ≡ number)
-    × HasLeft g.G.Desk g.H.Host g.C.Clock g.W.Waiter g.A.Actuators ran (terms_of c.args.server.now.catalogue.now (g.G.Desk.denies c.args.server.now.desk) c.args.server.now.workers g.H.In.Source.tells g.H.Out.Sink.tells g.H.Host.tells g.C.Clock.tells g.W.Waiter.tells) c.args.server.now.desk number worker.pass worker.duty worker.clock worker.waiter worker.flags) c.worker_of-worker.result.0 c.worker_of-worker.result.1 c.worker_of-worker.ensures
+    × HasLeft g.G.Desk g.H.Host g.C.Clock g.W.Waiter g.A.Actuators ran (terms_of c.args.server.now.catalogue.now (g.G.Desk.denies c.args.server.now.desk) (option_copied c.args.server.now.keys) c.args.server.now.workers g.H.In.Source.tells g.H.Out.Sink.tells g.H.Host.tells g.C.Clock.tells g.W.Waiter.tells) c.args.server.now.desk number worker.pass worker.duty worker.clock worker.waiter worker.flags) c.worker_of-worker.result.0 c.worker_of-worker.result.1 c.worker_of-worker.ensures
     (subst (λ items. EachInTurn items (length c.loop-ran.yielded) (λ ran number worker. (worker.server.now ≡ c.args.server.now) × (worker.number ≡ number)
-    × HasLeft g.G.Desk g.H.Host g.C.Clock g.W.Waiter g.A.Actuators ran (terms_of c.args.server.now.catalogue.now (g.G.Desk.denies c.args.server.now.desk) c.args.server.now.workers g.H.In.Source.tells g.H.Out.Sink.tells g.H.Host.tells g.C.Clock.tells g.W.Waiter.tells) c.args.server.now.desk number worker.pass worker.duty worker.clock worker.waiter worker.flags)) step c.loop-ran.invariant.left) in
+    × HasLeft g.G.Desk g.H.Host g.C.Clock g.W.Waiter g.A.Actuators ran (terms_of c.args.server.now.catalogue.now (g.G.Desk.denies c.args.server.now.desk) (option_copied c.args.server.now.keys) c.args.server.now.workers g.H.In.Source.tells g.H.Out.Sink.tells g.H.Host.tells g.C.Clock.tells g.W.Waiter.tells) c.args.server.now.desk number worker.pass worker.duty worker.clock worker.waiter worker.flags)) step c.loop-ran.invariant.left) in
     (c.loop-ran.invariant.own, facts.0.2.own)
 
 pub join_one-requires-clause-place : goal.join_one-requires-clause-place
 join_one-requires-clause-place g c =
     let step : c.loop-ran.ran-iterator.rest.items ≡ c.in-Some.ran ∷ c.next.new.self.rest.items = c.in-Some.ensures.steps.0 in
     let facts = each-first c.in-Some.ran c.next.new.self.rest.items (length c.loop-ran.yielded) (λ ran number worker. (worker.server.now ≡ c.args.server.now) × (worker.number ≡ number)
-    × HasLeft g.G.Desk g.H.Host g.C.Clock g.W.Waiter g.A.Actuators ran (terms_of c.args.server.now.catalogue.now (g.G.Desk.denies c.args.server.now.desk) c.args.server.now.workers g.H.In.Source.tells g.H.Out.Sink.tells g.H.Host.tells g.C.Clock.tells g.W.Waiter.tells) c.args.server.now.desk number worker.pass worker.duty worker.clock worker.waiter worker.flags) c.worker_of-worker.result.0 c.worker_of-worker.result.1 c.worker_of-worker.ensures
+    × HasLeft g.G.Desk g.H.Host g.C.Clock g.W.Waiter g.A.Actuators ran (terms_of c.args.server.now.catalogue.now (g.G.Desk.denies c.args.server.now.desk) (option_copied c.args.server.now.keys) c.args.server.now.workers g.H.In.Source.tells g.H.Out.Sink.tells g.H.Host.tells g.C.Clock.tells g.W.Waiter.tells) c.args.server.now.desk number worker.pass worker.duty worker.clock worker.waiter worker.flags) c.worker_of-worker.result.0 c.worker_of-worker.result.1 c.worker_of-worker.ensures
     (subst (λ items. EachInTurn items (length c.loop-ran.yielded) (λ ran number worker. (worker.server.now ≡ c.args.server.now) × (worker.number ≡ number)
-    × HasLeft g.G.Desk g.H.Host g.C.Clock g.W.Waiter g.A.Actuators ran (terms_of c.args.server.now.catalogue.now (g.G.Desk.denies c.args.server.now.desk) c.args.server.now.workers g.H.In.Source.tells g.H.Out.Sink.tells g.H.Host.tells g.C.Clock.tells g.W.Waiter.tells) c.args.server.now.desk number worker.pass worker.duty worker.clock worker.waiter worker.flags)) step c.loop-ran.invariant.left) in
+    × HasLeft g.G.Desk g.H.Host g.C.Clock g.W.Waiter g.A.Actuators ran (terms_of c.args.server.now.catalogue.now (g.G.Desk.denies c.args.server.now.desk) (option_copied c.args.server.now.keys) c.args.server.now.workers g.H.In.Source.tells g.H.Out.Sink.tells g.H.Host.tells g.C.Clock.tells g.W.Waiter.tells) c.args.server.now.desk number worker.pass worker.duty worker.clock worker.waiter worker.flags)) step c.loop-ran.invariant.left) in
     let inv = c.loop-ran.invariant in
     fits-next g.A.Actuators c.args.server.now.workers (length c.loop-ran.yielded) c.worker_of-worker.result.0.duty inv.back c.args.outside.now.devices.now.items c.loop-ran.outside.devices.now.items facts.0.2.placed
     (back-length g.A.Actuators.calls (λ device. g.A.Actuators.tells × g.A.Actuators.whole device) 0 inv.was inv.back inv.works inv.returned.back ∙ inv.returned.drivers) inv.devices
@@ -82,9 +82,9 @@ pub loop-ran-preserved : goal.loop-ran-preserved
 loop-ran-preserved g c =
     let step : c.loop-ran.ran-iterator.rest.items ≡ c.in-Some.ran ∷ c.next.new.self.rest.items = c.in-Some.ensures.steps.0 in
     let facts = each-first c.in-Some.ran c.next.new.self.rest.items (length c.loop-ran.yielded) (λ ran number worker. (worker.server.now ≡ c.args.server.now) × (worker.number ≡ number)
-    × HasLeft g.G.Desk g.H.Host g.C.Clock g.W.Waiter g.A.Actuators ran (terms_of c.args.server.now.catalogue.now (g.G.Desk.denies c.args.server.now.desk) c.args.server.now.workers g.H.In.Source.tells g.H.Out.Sink.tells g.H.Host.tells g.C.Clock.tells g.W.Waiter.tells) c.args.server.now.desk number worker.pass worker.duty worker.clock worker.waiter worker.flags) c.worker_of-worker.result.0 c.worker_of-worker.result.1 c.worker_of-worker.ensures
+    × HasLeft g.G.Desk g.H.Host g.C.Clock g.W.Waiter g.A.Actuators ran (terms_of c.args.server.now.catalogue.now (g.G.Desk.denies c.args.server.now.desk) (option_copied c.args.server.now.keys) c.args.server.now.workers g.H.In.Source.tells g.H.Out.Sink.tells g.H.Host.tells g.C.Clock.tells g.W.Waiter.tells) c.args.server.now.desk number worker.pass worker.duty worker.clock worker.waiter worker.flags) c.worker_of-worker.result.0 c.worker_of-worker.result.1 c.worker_of-worker.ensures
     (subst (λ items. EachInTurn items (length c.loop-ran.yielded) (λ ran number worker. (worker.server.now ≡ c.args.server.now) × (worker.number ≡ number)
-    × HasLeft g.G.Desk g.H.Host g.C.Clock g.W.Waiter g.A.Actuators ran (terms_of c.args.server.now.catalogue.now (g.G.Desk.denies c.args.server.now.desk) c.args.server.now.workers g.H.In.Source.tells g.H.Out.Sink.tells g.H.Host.tells g.C.Clock.tells g.W.Waiter.tells) c.args.server.now.desk number worker.pass worker.duty worker.clock worker.waiter worker.flags)) step c.loop-ran.invariant.left) in
+    × HasLeft g.G.Desk g.H.Host g.C.Clock g.W.Waiter g.A.Actuators ran (terms_of c.args.server.now.catalogue.now (g.G.Desk.denies c.args.server.now.desk) (option_copied c.args.server.now.keys) c.args.server.now.workers g.H.In.Source.tells g.H.Out.Sink.tells g.H.Host.tells g.C.Clock.tells g.W.Waiter.tells) c.args.server.now.desk number worker.pass worker.duty worker.clock worker.waiter worker.flags)) step c.loop-ran.invariant.left) in
     let inv = c.loop-ran.invariant in
     let more : suc (length c.loop-ran.yielded) ≡ length (c.loop-ran.yielded ++ c.in-Some.ran ∷ []) = omega (arith, length-append c.loop-ran.yielded (c.in-Some.ran ∷ [])) in
     let backs : length inv.back ≡ length c.loop-ran.yielded - (c.args.server.now.workers + 1) =
@@ -101,7 +101,7 @@ loop-ran-preserved g c =
       listens = λ told. c.join_one.ensures.listens told ∙ inv.listens told;
       spawner = c.join_one.ensures.spawner ∙ inv.spawner;
       left = subst (λ n. EachInTurn c.next.new.self.rest.items n (λ ran number worker. (worker.server.now ≡ c.args.server.now) × (worker.number ≡ number)
-          × HasLeft g.G.Desk g.H.Host g.C.Clock g.W.Waiter g.A.Actuators ran (terms_of c.args.server.now.catalogue.now (g.G.Desk.denies c.args.server.now.desk) c.args.server.now.workers g.H.In.Source.tells g.H.Out.Sink.tells g.H.Host.tells g.C.Clock.tells g.W.Waiter.tells) c.args.server.now.desk number worker.pass worker.duty worker.clock worker.waiter worker.flags)) more facts.1;
+          × HasLeft g.G.Desk g.H.Host g.C.Clock g.W.Waiter g.A.Actuators ran (terms_of c.args.server.now.catalogue.now (g.G.Desk.denies c.args.server.now.desk) (option_copied c.args.server.now.keys) c.args.server.now.workers g.H.In.Source.tells g.H.Out.Sink.tells g.H.Host.tells g.C.Clock.tells g.W.Waiter.tells) c.args.server.now.desk number worker.pass worker.duty worker.clock worker.waiter worker.flags)) more facts.1;
       count = omega (arith, inv.count, ap length step, more);
       shares = inv.shares + share_at g.H.Host c.worker_of-worker.result.0.duty;
       all_shares =
@@ -110,14 +110,14 @@ loop-ran-preserved g c =
           ∙ shares-first c.in-Some.ran c.next.new.self.rest.items (λ worker. share_at g.H.Host worker.duty) c.worker_of-worker.result.0 c.worker_of-worker.result.1 c.worker_of-worker.ensures in
           omega (arith, e, inv.all_shares);
       works = inv.works ++ facts.0.2.works;
-      together = subst (λ n. Together (terms_of c.args.server.now.catalogue.now (g.G.Desk.denies c.args.server.now.desk) c.args.server.now.workers g.H.In.Source.tells g.H.Out.Sink.tells g.H.Host.tells g.C.Clock.tells g.W.Waiter.tells) n (inv.shares + share_at g.H.Host c.worker_of-worker.result.0.duty) (inv.works ++ facts.0.2.works) (own_of g.G.Desk c.join_one.new.pass) (g.G.Desk.seen c.join_one.new.pass)
+      together = subst (λ n. Together (terms_of c.args.server.now.catalogue.now (g.G.Desk.denies c.args.server.now.desk) (option_copied c.args.server.now.keys) c.args.server.now.workers g.H.In.Source.tells g.H.Out.Sink.tells g.H.Host.tells g.C.Clock.tells g.W.Waiter.tells) n (inv.shares + share_at g.H.Host c.worker_of-worker.result.0.duty) (inv.works ++ facts.0.2.works) (own_of g.G.Desk c.join_one.new.pass) (g.G.Desk.seen c.join_one.new.pass)
           (g.H.Host.served c.args.outside.now.host.now) (g.H.Host.served c.join_one.new.outside.host.now) (g.C.Clock.given c.args.outside.now.clock.now) (g.C.Clock.given c.join_one.new.outside.clock.now) (hosted_at g.H.Host c.args.outside.now.host.now) (hosted_at g.H.Host c.join_one.new.outside.host.now)
           (g.C.Clock.faults c.args.outside.now.clock.now) (g.C.Clock.faults c.join_one.new.outside.clock.now) c.with-flags.result (c.loop-ran.unrun || not c.worker_of-worker.result.1)) more
-          (subst (λ (flags : Flags). Together (terms_of c.args.server.now.catalogue.now (g.G.Desk.denies c.args.server.now.desk) c.args.server.now.workers g.H.In.Source.tells g.H.Out.Sink.tells g.H.Host.tells g.C.Clock.tells g.W.Waiter.tells) (suc (length c.loop-ran.yielded)) (inv.shares + share_at g.H.Host c.worker_of-worker.result.0.duty) (inv.works ++ facts.0.2.works) (own_of g.G.Desk c.join_one.new.pass) (g.G.Desk.seen c.join_one.new.pass)
+          (subst (λ (flags : Flags). Together (terms_of c.args.server.now.catalogue.now (g.G.Desk.denies c.args.server.now.desk) (option_copied c.args.server.now.keys) c.args.server.now.workers g.H.In.Source.tells g.H.Out.Sink.tells g.H.Host.tells g.C.Clock.tells g.W.Waiter.tells) (suc (length c.loop-ran.yielded)) (inv.shares + share_at g.H.Host c.worker_of-worker.result.0.duty) (inv.works ++ facts.0.2.works) (own_of g.G.Desk c.join_one.new.pass) (g.G.Desk.seen c.join_one.new.pass)
           (g.H.Host.served c.args.outside.now.host.now) (g.H.Host.served c.join_one.new.outside.host.now) (g.C.Clock.given c.args.outside.now.clock.now) (g.C.Clock.given c.join_one.new.outside.clock.now) (hosted_at g.H.Host c.args.outside.now.host.now) (hosted_at g.H.Host c.join_one.new.outside.host.now)
           (g.C.Clock.faults c.args.outside.now.clock.now) (g.C.Clock.faults c.join_one.new.outside.clock.now) flags (c.loop-ran.unrun || not c.worker_of-worker.result.1))
           (sym (c.with-flags.ensures ∙ ap (both_flags c.loop-ran.flags) c.join_one.ensures.flags))
-          (together-next (terms_of c.args.server.now.catalogue.now (g.G.Desk.denies c.args.server.now.desk) c.args.server.now.workers g.H.In.Source.tells g.H.Out.Sink.tells g.H.Host.tells g.C.Clock.tells g.W.Waiter.tells) (length c.loop-ran.yielded) inv.shares (share_at g.H.Host c.worker_of-worker.result.0.duty) inv.works facts.0.2.works
+          (together-next (terms_of c.args.server.now.catalogue.now (g.G.Desk.denies c.args.server.now.desk) (option_copied c.args.server.now.keys) c.args.server.now.workers g.H.In.Source.tells g.H.Out.Sink.tells g.H.Host.tells g.C.Clock.tells g.W.Waiter.tells) (length c.loop-ran.yielded) inv.shares (share_at g.H.Host c.worker_of-worker.result.0.duty) inv.works facts.0.2.works
           (own_of g.G.Desk c.loop-ran.pass) (own_of g.G.Desk c.join_one.new.pass) (own_of g.G.Desk c.worker_of-worker.result.0.pass) (g.G.Desk.seen c.loop-ran.pass) (g.G.Desk.seen c.worker_of-worker.result.0.pass) (g.G.Desk.seen c.join_one.new.pass)
           (g.H.Host.served c.args.outside.now.host.now) (g.H.Host.served c.loop-ran.outside.host.now) (served_at g.H.Host c.worker_of-worker.result.0.duty) (g.H.Host.served c.join_one.new.outside.host.now)
           (g.C.Clock.given c.args.outside.now.clock.now) (g.C.Clock.given c.loop-ran.outside.clock.now) (g.C.Clock.given c.worker_of-worker.result.0.clock) (g.C.Clock.given c.join_one.new.outside.clock.now)
@@ -140,9 +140,9 @@ loop-ran-preserved g c =
         ap length c.join_one.ensures.devices,
         c.join_one.ensures.room,
       );
-      returned = subst (λ n. Returned g.A.Actuators.calls (λ device. g.A.Actuators.tells × g.A.Actuators.whole device) (terms_of c.args.server.now.catalogue.now (g.G.Desk.denies c.args.server.now.desk) c.args.server.now.workers g.H.In.Source.tells g.H.Out.Sink.tells g.H.Host.tells g.C.Clock.tells g.W.Waiter.tells) g.W.Waiter.tells n (inv.works ++ facts.0.2.works) (own_of g.G.Desk c.join_one.new.pass)
+      returned = subst (λ n. Returned g.A.Actuators.calls (λ device. g.A.Actuators.tells × g.A.Actuators.whole device) (terms_of c.args.server.now.catalogue.now (g.G.Desk.denies c.args.server.now.desk) (option_copied c.args.server.now.keys) c.args.server.now.workers g.H.In.Source.tells g.H.Out.Sink.tells g.H.Host.tells g.C.Clock.tells g.W.Waiter.tells) g.W.Waiter.tells n (inv.works ++ facts.0.2.works) (own_of g.G.Desk c.join_one.new.pass)
           (g.W.Waiter.waits c.args.outside.now.waiter.now) (g.W.Waiter.waits c.join_one.new.outside.waiter.now) (inv.was ++ was_at c.worker_of-worker.result.0.duty) (inv.back ++ devices_at c.worker_of-worker.result.0.duty) (c.loop-ran.unrun || not c.worker_of-worker.result.1)) more
-          (returned-next g.A.Actuators (terms_of c.args.server.now.catalogue.now (g.G.Desk.denies c.args.server.now.desk) c.args.server.now.workers g.H.In.Source.tells g.H.Out.Sink.tells g.H.Host.tells g.C.Clock.tells g.W.Waiter.tells) g.W.Waiter.tells (length c.loop-ran.yielded) c.worker_of-worker.result.0.duty inv.works facts.0.2.works
+          (returned-next g.A.Actuators (terms_of c.args.server.now.catalogue.now (g.G.Desk.denies c.args.server.now.desk) (option_copied c.args.server.now.keys) c.args.server.now.workers g.H.In.Source.tells g.H.Out.Sink.tells g.H.Host.tells g.C.Clock.tells g.W.Waiter.tells) g.W.Waiter.tells (length c.loop-ran.yielded) c.worker_of-worker.result.0.duty inv.works facts.0.2.works
           (own_of g.G.Desk c.loop-ran.pass) (own_of g.G.Desk c.worker_of-worker.result.0.pass) (own_of g.G.Desk c.join_one.new.pass)
           (g.W.Waiter.waits c.args.outside.now.waiter.now) (g.W.Waiter.waits c.loop-ran.outside.waiter.now) (g.W.Waiter.waits c.join_one.new.outside.waiter.now) inv.was inv.back note c.loop-ran.unrun c.worker_of-worker.result.1
           inv.returned inv.together.part.agreed facts.0.2.left.part.agreed inv.together.part.of_them facts.0.2.left.part.of_them c.join_one.ensures.joined
@@ -175,16 +175,16 @@ returns-clause-account g c =
     sym (append-nil inv.was) ∙ ap (λ items. inv.was ++ devices_in items (λ worker. was_at worker.duty)) (sym none) ∙ inv.all_devices in
     record {
       works = inv.works;
-      together = subst (λ n. Together (terms_of c.args.server.now.catalogue.now (g.G.Desk.denies c.args.server.now.desk) c.args.server.now.workers g.H.In.Source.tells g.H.Out.Sink.tells g.H.Host.tells g.C.Clock.tells g.W.Waiter.tells) n (shares_in c.args.done.items (λ worker. share_at g.H.Host worker.duty)) inv.works (own_of g.G.Desk c.loop-ran.pass) (g.G.Desk.seen c.loop-ran.pass)
+      together = subst (λ n. Together (terms_of c.args.server.now.catalogue.now (g.G.Desk.denies c.args.server.now.desk) (option_copied c.args.server.now.keys) c.args.server.now.workers g.H.In.Source.tells g.H.Out.Sink.tells g.H.Host.tells g.C.Clock.tells g.W.Waiter.tells) n (shares_in c.args.done.items (λ worker. share_at g.H.Host worker.duty)) inv.works (own_of g.G.Desk c.loop-ran.pass) (g.G.Desk.seen c.loop-ran.pass)
           (g.H.Host.served c.args.outside.now.host.now) (g.H.Host.served c.loop-ran.outside.host.now) (g.C.Clock.given c.args.outside.now.clock.now) (g.C.Clock.given c.loop-ran.outside.clock.now) (hosted_at g.H.Host c.args.outside.now.host.now) (hosted_at g.H.Host c.loop-ran.outside.host.now)
           (g.C.Clock.faults c.args.outside.now.clock.now) (g.C.Clock.faults c.loop-ran.outside.clock.now) c.loop-ran.flags c.loop-ran.unrun) all
-          (subst (λ shares. Together (terms_of c.args.server.now.catalogue.now (g.G.Desk.denies c.args.server.now.desk) c.args.server.now.workers g.H.In.Source.tells g.H.Out.Sink.tells g.H.Host.tells g.C.Clock.tells g.W.Waiter.tells) (length c.loop-ran.yielded) shares inv.works (own_of g.G.Desk c.loop-ran.pass) (g.G.Desk.seen c.loop-ran.pass)
+          (subst (λ shares. Together (terms_of c.args.server.now.catalogue.now (g.G.Desk.denies c.args.server.now.desk) (option_copied c.args.server.now.keys) c.args.server.now.workers g.H.In.Source.tells g.H.Out.Sink.tells g.H.Host.tells g.C.Clock.tells g.W.Waiter.tells) (length c.loop-ran.yielded) shares inv.works (own_of g.G.Desk c.loop-ran.pass) (g.G.Desk.seen c.loop-ran.pass)
           (g.H.Host.served c.args.outside.now.host.now) (g.H.Host.served c.loop-ran.outside.host.now) (g.C.Clock.given c.args.outside.now.clock.now) (g.C.Clock.given c.loop-ran.outside.clock.now) (hosted_at g.H.Host c.args.outside.now.host.now) (hosted_at g.H.Host c.loop-ran.outside.host.now)
           (g.C.Clock.faults c.args.outside.now.clock.now) (g.C.Clock.faults c.loop-ran.outside.clock.now) c.loop-ran.flags c.loop-ran.unrun) whole inv.together);
       back = inv.back;
       devices_are = inv.devices;
-      returned = subst (λ n. Returned g.A.Actuators.calls (λ device. g.A.Actuators.tells × g.A.Actuators.whole device) (terms_of c.args.server.now.catalogue.now (g.G.Desk.denies c.args.server.now.desk) c.args.server.now.workers g.H.In.Source.tells g.H.Out.Sink.tells g.H.Host.tells g.C.Clock.tells g.W.Waiter.tells) g.W.Waiter.tells n inv.works (own_of g.G.Desk c.loop-ran.pass)
+      returned = subst (λ n. Returned g.A.Actuators.calls (λ device. g.A.Actuators.tells × g.A.Actuators.whole device) (terms_of c.args.server.now.catalogue.now (g.G.Desk.denies c.args.server.now.desk) (option_copied c.args.server.now.keys) c.args.server.now.workers g.H.In.Source.tells g.H.Out.Sink.tells g.H.Host.tells g.C.Clock.tells g.W.Waiter.tells) g.W.Waiter.tells n inv.works (own_of g.G.Desk c.loop-ran.pass)
           (g.W.Waiter.waits c.args.outside.now.waiter.now) (g.W.Waiter.waits c.loop-ran.outside.waiter.now) (devices_in c.args.done.items (λ worker. was_at worker.duty)) inv.back c.loop-ran.unrun) all
-          (subst (λ was. Returned g.A.Actuators.calls (λ device. g.A.Actuators.tells × g.A.Actuators.whole device) (terms_of c.args.server.now.catalogue.now (g.G.Desk.denies c.args.server.now.desk) c.args.server.now.workers g.H.In.Source.tells g.H.Out.Sink.tells g.H.Host.tells g.C.Clock.tells g.W.Waiter.tells) g.W.Waiter.tells (length c.loop-ran.yielded) inv.works (own_of g.G.Desk c.loop-ran.pass)
+          (subst (λ was. Returned g.A.Actuators.calls (λ device. g.A.Actuators.tells × g.A.Actuators.whole device) (terms_of c.args.server.now.catalogue.now (g.G.Desk.denies c.args.server.now.desk) (option_copied c.args.server.now.keys) c.args.server.now.workers g.H.In.Source.tells g.H.Out.Sink.tells g.H.Host.tells g.C.Clock.tells g.W.Waiter.tells) g.W.Waiter.tells (length c.loop-ran.yielded) inv.works (own_of g.G.Desk c.loop-ran.pass)
           (g.W.Waiter.waits c.args.outside.now.waiter.now) (g.W.Waiter.waits c.loop-ran.outside.waiter.now) was inv.back c.loop-ran.unrun) handed inv.returned);
     }

@@ -1,4 +1,4 @@
-use Rattle.std.proofs.Common.{◌≡◌, ℕ, ◌+◌, Bool, List, length, map, refl, sym, ap, ◌∙◌, subst, arith, length-append}
+use Rattle.std.proofs.Common.{◌≡◌, ℕ, ◌+◌, Bool, List, length, map, refl, sym, ap, ◌∙◌, subst, arith, length-append, option_copied}
 use denote.Param.{param}
 use denote.Exit.{no}
 use denote.Param.Send.{IsSend, param_send}
@@ -21,7 +21,7 @@ join_all-requires-clause-left g c =
     let all = workers-ran c.args.workers.items c.in-Ok.done.items c.args.server.now (λ worker. worker.server.now) (λ worker. worker.number) (λ worker. share_at g.H.Host worker.duty) (λ worker. was_at worker.duty)
     (λ number worker. (worker.server.now ≡ c.args.server.now) × (worker.number ≡ number)
     × IsReady g.G.Desk g.H.Host g.C.Clock g.W.Waiter g.A.Actuators c.args.server.now.catalogue.now c.args.server.now.desk c.args.server.now.workers number worker.pass worker.duty worker.clock worker.waiter worker.flags)
-    (λ ran server number worker. HasLeft g.G.Desk g.H.Host g.C.Clock g.W.Waiter g.A.Actuators ran (terms_of server.catalogue.now (g.G.Desk.denies server.desk) server.workers g.H.In.Source.tells g.H.Out.Sink.tells g.H.Host.tells g.C.Clock.tells g.W.Waiter.tells)
+    (λ ran server number worker. HasLeft g.G.Desk g.H.Host g.C.Clock g.W.Waiter g.A.Actuators ran (terms_of server.catalogue.now (g.G.Desk.denies server.desk) (option_copied server.keys) server.workers g.H.In.Source.tells g.H.Out.Sink.tells g.H.Host.tells g.C.Clock.tells g.W.Waiter.tells)
     server.desk number worker.pass worker.duty worker.clock worker.waiter worker.flags)
     (λ n worker ready. (ready.0, ready.1)) c.requires.ready c.in-Ok.ensures.each in
     all.0
@@ -31,7 +31,7 @@ join_all-requires-clause-room g c =
     let all = workers-ran c.args.workers.items c.in-Ok.done.items c.args.server.now (λ worker. worker.server.now) (λ worker. worker.number) (λ worker. share_at g.H.Host worker.duty) (λ worker. was_at worker.duty)
     (λ number worker. (worker.server.now ≡ c.args.server.now) × (worker.number ≡ number)
     × IsReady g.G.Desk g.H.Host g.C.Clock g.W.Waiter g.A.Actuators c.args.server.now.catalogue.now c.args.server.now.desk c.args.server.now.workers number worker.pass worker.duty worker.clock worker.waiter worker.flags)
-    (λ ran server number worker. HasLeft g.G.Desk g.H.Host g.C.Clock g.W.Waiter g.A.Actuators ran (terms_of server.catalogue.now (g.G.Desk.denies server.desk) server.workers g.H.In.Source.tells g.H.Out.Sink.tells g.H.Host.tells g.C.Clock.tells g.W.Waiter.tells)
+    (λ ran server number worker. HasLeft g.G.Desk g.H.Host g.C.Clock g.W.Waiter g.A.Actuators ran (terms_of server.catalogue.now (g.G.Desk.denies server.desk) (option_copied server.keys) server.workers g.H.In.Source.tells g.H.Out.Sink.tells g.H.Host.tells g.C.Clock.tells g.W.Waiter.tells)
     server.desk number worker.pass worker.duty worker.clock worker.waiter worker.flags)
     (λ n worker ready. (ready.0, ready.1)) c.requires.ready c.in-Ok.ensures.each in
     omega (arith, c.requires.room, ap length all.3)
@@ -41,7 +41,7 @@ returns-in-Ok-clause-parts g c =
     let all = workers-ran c.args.workers.items c.in-Ok.done.items c.args.server.now (λ worker. worker.server.now) (λ worker. worker.number) (λ worker. share_at g.H.Host worker.duty) (λ worker. was_at worker.duty)
     (λ number worker. (worker.server.now ≡ c.args.server.now) × (worker.number ≡ number)
     × IsReady g.G.Desk g.H.Host g.C.Clock g.W.Waiter g.A.Actuators c.args.server.now.catalogue.now c.args.server.now.desk c.args.server.now.workers number worker.pass worker.duty worker.clock worker.waiter worker.flags)
-    (λ ran server number worker. HasLeft g.G.Desk g.H.Host g.C.Clock g.W.Waiter g.A.Actuators ran (terms_of server.catalogue.now (g.G.Desk.denies server.desk) server.workers g.H.In.Source.tells g.H.Out.Sink.tells g.H.Host.tells g.C.Clock.tells g.W.Waiter.tells)
+    (λ ran server number worker. HasLeft g.G.Desk g.H.Host g.C.Clock g.W.Waiter g.A.Actuators ran (terms_of server.catalogue.now (g.G.Desk.denies server.desk) (option_copied server.keys) server.workers g.H.In.Source.tells g.H.Out.Sink.tells g.H.Host.tells g.C.Clock.tells g.W.Waiter.tells)
     server.desk number worker.pass worker.duty worker.clock worker.waiter worker.flags)
     (λ n worker ready. (ready.0, ready.1)) c.requires.ready c.in-Ok.ensures.each in
     omega (arith, c.join_all.ensures.parts, all.1)
@@ -51,18 +51,18 @@ returns-in-Ok-clause-account g c =
     let all = workers-ran c.args.workers.items c.in-Ok.done.items c.args.server.now (λ worker. worker.server.now) (λ worker. worker.number) (λ worker. share_at g.H.Host worker.duty) (λ worker. was_at worker.duty)
     (λ number worker. (worker.server.now ≡ c.args.server.now) × (worker.number ≡ number)
     × IsReady g.G.Desk g.H.Host g.C.Clock g.W.Waiter g.A.Actuators c.args.server.now.catalogue.now c.args.server.now.desk c.args.server.now.workers number worker.pass worker.duty worker.clock worker.waiter worker.flags)
-    (λ ran server number worker. HasLeft g.G.Desk g.H.Host g.C.Clock g.W.Waiter g.A.Actuators ran (terms_of server.catalogue.now (g.G.Desk.denies server.desk) server.workers g.H.In.Source.tells g.H.Out.Sink.tells g.H.Host.tells g.C.Clock.tells g.W.Waiter.tells)
+    (λ ran server number worker. HasLeft g.G.Desk g.H.Host g.C.Clock g.W.Waiter g.A.Actuators ran (terms_of server.catalogue.now (g.G.Desk.denies server.desk) (option_copied server.keys) server.workers g.H.In.Source.tells g.H.Out.Sink.tells g.H.Host.tells g.C.Clock.tells g.W.Waiter.tells)
     server.desk number worker.pass worker.duty worker.clock worker.waiter worker.flags)
     (λ n worker ready. (ready.0, ready.1)) c.requires.ready c.in-Ok.ensures.each in
-    subst (λ was. Account g.A.Actuators.calls (λ device. g.A.Actuators.tells × g.A.Actuators.whole device) (terms_of c.args.server.now.catalogue.now (g.G.Desk.denies c.args.server.now.desk) c.args.server.now.workers g.H.In.Source.tells g.H.Out.Sink.tells g.H.Host.tells g.C.Clock.tells g.W.Waiter.tells) g.W.Waiter.tells (length c.args.workers.items) (shares_of c.args.workers.items (λ worker. share_at g.H.Host worker.duty)) (own_of g.G.Desk c.join_all.new.pass) (g.G.Desk.seen c.join_all.new.pass)
+    subst (λ was. Account g.A.Actuators.calls (λ device. g.A.Actuators.tells × g.A.Actuators.whole device) (terms_of c.args.server.now.catalogue.now (g.G.Desk.denies c.args.server.now.desk) (option_copied c.args.server.now.keys) c.args.server.now.workers g.H.In.Source.tells g.H.Out.Sink.tells g.H.Host.tells g.C.Clock.tells g.W.Waiter.tells) g.W.Waiter.tells (length c.args.workers.items) (shares_of c.args.workers.items (λ worker. share_at g.H.Host worker.duty)) (own_of g.G.Desk c.join_all.new.pass) (g.G.Desk.seen c.join_all.new.pass)
     (g.H.Host.served c.args.outside.now.host.now) (g.H.Host.served c.join_all.new.outside.host.now) (g.C.Clock.given c.args.outside.now.clock.now) (g.C.Clock.given c.join_all.new.outside.clock.now) (hosted_at g.H.Host c.args.outside.now.host.now) (hosted_at g.H.Host c.join_all.new.outside.host.now)
     (g.C.Clock.faults c.args.outside.now.clock.now) (g.C.Clock.faults c.join_all.new.outside.clock.now) (g.W.Waiter.waits c.args.outside.now.waiter.now) (g.W.Waiter.waits c.join_all.new.outside.waiter.now)
     was c.args.outside.now.devices.now.items c.join_all.new.outside.devices.now.items c.join_all.result.0 c.join_all.result.1) all.3
-    (subst (λ shares. Account g.A.Actuators.calls (λ device. g.A.Actuators.tells × g.A.Actuators.whole device) (terms_of c.args.server.now.catalogue.now (g.G.Desk.denies c.args.server.now.desk) c.args.server.now.workers g.H.In.Source.tells g.H.Out.Sink.tells g.H.Host.tells g.C.Clock.tells g.W.Waiter.tells) g.W.Waiter.tells (length c.args.workers.items) shares (own_of g.G.Desk c.join_all.new.pass) (g.G.Desk.seen c.join_all.new.pass)
+    (subst (λ shares. Account g.A.Actuators.calls (λ device. g.A.Actuators.tells × g.A.Actuators.whole device) (terms_of c.args.server.now.catalogue.now (g.G.Desk.denies c.args.server.now.desk) (option_copied c.args.server.now.keys) c.args.server.now.workers g.H.In.Source.tells g.H.Out.Sink.tells g.H.Host.tells g.C.Clock.tells g.W.Waiter.tells) g.W.Waiter.tells (length c.args.workers.items) shares (own_of g.G.Desk c.join_all.new.pass) (g.G.Desk.seen c.join_all.new.pass)
     (g.H.Host.served c.args.outside.now.host.now) (g.H.Host.served c.join_all.new.outside.host.now) (g.C.Clock.given c.args.outside.now.clock.now) (g.C.Clock.given c.join_all.new.outside.clock.now) (hosted_at g.H.Host c.args.outside.now.host.now) (hosted_at g.H.Host c.join_all.new.outside.host.now)
     (g.C.Clock.faults c.args.outside.now.clock.now) (g.C.Clock.faults c.join_all.new.outside.clock.now) (g.W.Waiter.waits c.args.outside.now.waiter.now) (g.W.Waiter.waits c.join_all.new.outside.waiter.now)
     (devices_in c.in-Ok.done.items (λ worker. was_at worker.duty)) c.args.outside.now.devices.now.items c.join_all.new.outside.devices.now.items c.join_all.result.0 c.join_all.result.1) all.2
-    (subst (λ n. Account g.A.Actuators.calls (λ device. g.A.Actuators.tells × g.A.Actuators.whole device) (terms_of c.args.server.now.catalogue.now (g.G.Desk.denies c.args.server.now.desk) c.args.server.now.workers g.H.In.Source.tells g.H.Out.Sink.tells g.H.Host.tells g.C.Clock.tells g.W.Waiter.tells) g.W.Waiter.tells n (shares_in c.in-Ok.done.items (λ worker. share_at g.H.Host worker.duty)) (own_of g.G.Desk c.join_all.new.pass) (g.G.Desk.seen c.join_all.new.pass)
+    (subst (λ n. Account g.A.Actuators.calls (λ device. g.A.Actuators.tells × g.A.Actuators.whole device) (terms_of c.args.server.now.catalogue.now (g.G.Desk.denies c.args.server.now.desk) (option_copied c.args.server.now.keys) c.args.server.now.workers g.H.In.Source.tells g.H.Out.Sink.tells g.H.Host.tells g.C.Clock.tells g.W.Waiter.tells) g.W.Waiter.tells n (shares_in c.in-Ok.done.items (λ worker. share_at g.H.Host worker.duty)) (own_of g.G.Desk c.join_all.new.pass) (g.G.Desk.seen c.join_all.new.pass)
     (g.H.Host.served c.args.outside.now.host.now) (g.H.Host.served c.join_all.new.outside.host.now) (g.C.Clock.given c.args.outside.now.clock.now) (g.C.Clock.given c.join_all.new.outside.clock.now) (hosted_at g.H.Host c.args.outside.now.host.now) (hosted_at g.H.Host c.join_all.new.outside.host.now)
     (g.C.Clock.faults c.args.outside.now.clock.now) (g.C.Clock.faults c.join_all.new.outside.clock.now) (g.W.Waiter.waits c.args.outside.now.waiter.now) (g.W.Waiter.waits c.join_all.new.outside.waiter.now)
     (devices_in c.in-Ok.done.items (λ worker. was_at worker.duty)) c.args.outside.now.devices.now.items c.join_all.new.outside.devices.now.items c.join_all.result.0 c.join_all.result.1) all.1

@@ -1,4 +1,4 @@
-use Rattle.std.proofs.Common.{◌≡◌, ℕ, ◌+◌, ◌≤◌, Bool, List, [], ◌++◌, length, take, drop, vec_len, vec_capacity, Vec, Global, refl, sym, ap, ◌∙◌, subst, arith, append-nil, length-append}
+use Rattle.std.proofs.Common.{◌≡◌, ℕ, ◌+◌, ◌≤◌, Bool, List, [], ◌++◌, length, take, drop, vec_len, vec_capacity, Vec, Global, refl, sym, ap, ◌∙◌, subst, arith, append-nil, length-append, option_copied}
 use Rattle.boss_worker.specs.Desks.{own_of}
 use Rattle.boss_worker.specs.Saying.{terms_of}
 use Rattle.boss_worker.specs.Workers.{share_at, was_at, IsReady}
@@ -53,19 +53,19 @@ returns-in-Ok-clause-account g c =
     let count = on-ok c.make_all.result _ c.make_all.ensures.count fine in
     let shared = on-ok c.make_all.result _ c.make_all.ensures.share fine in
     let taken = front-taken c.args.drives (devices_of c.make_all.new.made.items (λ worker. was_at worker.duty)) c.make_all.new.outside.devices.now.items c.args.outside.now.devices.now.items c.make_all.ensures.devices (omega (arith, on-ok c.make_all.result _ c.make_all.ensures.taken fine)) in
-    subst (λ others. Account g.A.Actuators.calls (λ device. g.A.Actuators.tells × g.A.Actuators.whole device) (terms_of c.args.server.now.catalogue.now (g.G.Desk.denies c.args.server.now.desk) c.args.server.now.workers g.H.In.Source.tells g.H.Out.Sink.tells g.H.Host.tells g.C.Clock.tells g.W.Waiter.tells) g.W.Waiter.tells (c.args.server.now.workers + 1 + c.args.drives) c.args.connections (own_of g.G.Desk c.run_and_join.new.pass) (g.G.Desk.seen c.run_and_join.new.pass)
+    subst (λ others. Account g.A.Actuators.calls (λ device. g.A.Actuators.tells × g.A.Actuators.whole device) (terms_of c.args.server.now.catalogue.now (g.G.Desk.denies c.args.server.now.desk) (option_copied c.args.server.now.keys) c.args.server.now.workers g.H.In.Source.tells g.H.Out.Sink.tells g.H.Host.tells g.C.Clock.tells g.W.Waiter.tells) g.W.Waiter.tells (c.args.server.now.workers + 1 + c.args.drives) c.args.connections (own_of g.G.Desk c.run_and_join.new.pass) (g.G.Desk.seen c.run_and_join.new.pass)
     (g.H.Host.served c.args.outside.now.host.now) (g.H.Host.served c.run_and_join.new.outside.host.now) (g.C.Clock.given c.args.outside.now.clock.now) (g.C.Clock.given c.run_and_join.new.outside.clock.now) (hosted_at g.H.Host c.args.outside.now.host.now) (hosted_at g.H.Host c.run_and_join.new.outside.host.now)
     (g.C.Clock.faults c.args.outside.now.clock.now) (g.C.Clock.faults c.run_and_join.new.outside.clock.now) (g.W.Waiter.waits c.args.outside.now.waiter.now) (g.W.Waiter.waits c.run_and_join.new.outside.waiter.now) (take c.args.drives c.args.outside.now.devices.now.items) others c.run_and_join.new.outside.devices.now.items c.in-Ok.told.0 c.in-Ok.told.1) (sym taken.1)
-    (subst (λ was. Account g.A.Actuators.calls (λ device. g.A.Actuators.tells × g.A.Actuators.whole device) (terms_of c.args.server.now.catalogue.now (g.G.Desk.denies c.args.server.now.desk) c.args.server.now.workers g.H.In.Source.tells g.H.Out.Sink.tells g.H.Host.tells g.C.Clock.tells g.W.Waiter.tells) g.W.Waiter.tells (c.args.server.now.workers + 1 + c.args.drives) c.args.connections (own_of g.G.Desk c.run_and_join.new.pass) (g.G.Desk.seen c.run_and_join.new.pass)
+    (subst (λ was. Account g.A.Actuators.calls (λ device. g.A.Actuators.tells × g.A.Actuators.whole device) (terms_of c.args.server.now.catalogue.now (g.G.Desk.denies c.args.server.now.desk) (option_copied c.args.server.now.keys) c.args.server.now.workers g.H.In.Source.tells g.H.Out.Sink.tells g.H.Host.tells g.C.Clock.tells g.W.Waiter.tells) g.W.Waiter.tells (c.args.server.now.workers + 1 + c.args.drives) c.args.connections (own_of g.G.Desk c.run_and_join.new.pass) (g.G.Desk.seen c.run_and_join.new.pass)
     (g.H.Host.served c.args.outside.now.host.now) (g.H.Host.served c.run_and_join.new.outside.host.now) (g.C.Clock.given c.args.outside.now.clock.now) (g.C.Clock.given c.run_and_join.new.outside.clock.now) (hosted_at g.H.Host c.args.outside.now.host.now) (hosted_at g.H.Host c.run_and_join.new.outside.host.now)
     (g.C.Clock.faults c.args.outside.now.clock.now) (g.C.Clock.faults c.run_and_join.new.outside.clock.now) (g.W.Waiter.waits c.args.outside.now.waiter.now) (g.W.Waiter.waits c.run_and_join.new.outside.waiter.now) was c.make_all.new.outside.devices.now.items c.run_and_join.new.outside.devices.now.items c.in-Ok.told.0 c.in-Ok.told.1) (sym taken.0)
-    (subst (λ shares. Account g.A.Actuators.calls (λ device. g.A.Actuators.tells × g.A.Actuators.whole device) (terms_of c.args.server.now.catalogue.now (g.G.Desk.denies c.args.server.now.desk) c.args.server.now.workers g.H.In.Source.tells g.H.Out.Sink.tells g.H.Host.tells g.C.Clock.tells g.W.Waiter.tells) g.W.Waiter.tells (c.args.server.now.workers + 1 + c.args.drives) shares (own_of g.G.Desk c.run_and_join.new.pass) (g.G.Desk.seen c.run_and_join.new.pass)
+    (subst (λ shares. Account g.A.Actuators.calls (λ device. g.A.Actuators.tells × g.A.Actuators.whole device) (terms_of c.args.server.now.catalogue.now (g.G.Desk.denies c.args.server.now.desk) (option_copied c.args.server.now.keys) c.args.server.now.workers g.H.In.Source.tells g.H.Out.Sink.tells g.H.Host.tells g.C.Clock.tells g.W.Waiter.tells) g.W.Waiter.tells (c.args.server.now.workers + 1 + c.args.drives) shares (own_of g.G.Desk c.run_and_join.new.pass) (g.G.Desk.seen c.run_and_join.new.pass)
     (g.H.Host.served c.args.outside.now.host.now) (g.H.Host.served c.run_and_join.new.outside.host.now) (g.C.Clock.given c.args.outside.now.clock.now) (g.C.Clock.given c.run_and_join.new.outside.clock.now) (hosted_at g.H.Host c.args.outside.now.host.now) (hosted_at g.H.Host c.run_and_join.new.outside.host.now)
     (g.C.Clock.faults c.args.outside.now.clock.now) (g.C.Clock.faults c.run_and_join.new.outside.clock.now) (g.W.Waiter.waits c.args.outside.now.waiter.now) (g.W.Waiter.waits c.run_and_join.new.outside.waiter.now) (devices_of c.make_all.new.made.items (λ worker. was_at worker.duty)) c.make_all.new.outside.devices.now.items c.run_and_join.new.outside.devices.now.items c.in-Ok.told.0 c.in-Ok.told.1) shared
-    (subst (λ n. Account g.A.Actuators.calls (λ device. g.A.Actuators.tells × g.A.Actuators.whole device) (terms_of c.args.server.now.catalogue.now (g.G.Desk.denies c.args.server.now.desk) c.args.server.now.workers g.H.In.Source.tells g.H.Out.Sink.tells g.H.Host.tells g.C.Clock.tells g.W.Waiter.tells) g.W.Waiter.tells n (shares_of c.make_all.new.made.items (λ worker. share_at g.H.Host worker.duty)) (own_of g.G.Desk c.run_and_join.new.pass) (g.G.Desk.seen c.run_and_join.new.pass)
+    (subst (λ n. Account g.A.Actuators.calls (λ device. g.A.Actuators.tells × g.A.Actuators.whole device) (terms_of c.args.server.now.catalogue.now (g.G.Desk.denies c.args.server.now.desk) (option_copied c.args.server.now.keys) c.args.server.now.workers g.H.In.Source.tells g.H.Out.Sink.tells g.H.Host.tells g.C.Clock.tells g.W.Waiter.tells) g.W.Waiter.tells n (shares_of c.make_all.new.made.items (λ worker. share_at g.H.Host worker.duty)) (own_of g.G.Desk c.run_and_join.new.pass) (g.G.Desk.seen c.run_and_join.new.pass)
     (g.H.Host.served c.args.outside.now.host.now) (g.H.Host.served c.run_and_join.new.outside.host.now) (g.C.Clock.given c.args.outside.now.clock.now) (g.C.Clock.given c.run_and_join.new.outside.clock.now) (hosted_at g.H.Host c.args.outside.now.host.now) (hosted_at g.H.Host c.run_and_join.new.outside.host.now)
     (g.C.Clock.faults c.args.outside.now.clock.now) (g.C.Clock.faults c.run_and_join.new.outside.clock.now) (g.W.Waiter.waits c.args.outside.now.waiter.now) (g.W.Waiter.waits c.run_and_join.new.outside.waiter.now) (devices_of c.make_all.new.made.items (λ worker. was_at worker.duty)) c.make_all.new.outside.devices.now.items c.run_and_join.new.outside.devices.now.items c.in-Ok.told.0 c.in-Ok.told.1) count
-    (account-from g.A.Actuators.calls (λ device. g.A.Actuators.tells × g.A.Actuators.whole device) (terms_of c.args.server.now.catalogue.now (g.G.Desk.denies c.args.server.now.desk) c.args.server.now.workers g.H.In.Source.tells g.H.Out.Sink.tells g.H.Host.tells g.C.Clock.tells g.W.Waiter.tells) g.W.Waiter.tells (length c.make_all.new.made.items) (shares_of c.make_all.new.made.items (λ worker. share_at g.H.Host worker.duty)) (own_of g.G.Desk c.run_and_join.new.pass) (g.G.Desk.seen c.run_and_join.new.pass) c.in-Ok.told.0 c.in-Ok.told.1
+    (account-from g.A.Actuators.calls (λ device. g.A.Actuators.tells × g.A.Actuators.whole device) (terms_of c.args.server.now.catalogue.now (g.G.Desk.denies c.args.server.now.desk) (option_copied c.args.server.now.keys) c.args.server.now.workers g.H.In.Source.tells g.H.Out.Sink.tells g.H.Host.tells g.C.Clock.tells g.W.Waiter.tells) g.W.Waiter.tells (length c.make_all.new.made.items) (shares_of c.make_all.new.made.items (λ worker. share_at g.H.Host worker.duty)) (own_of g.G.Desk c.run_and_join.new.pass) (g.G.Desk.seen c.run_and_join.new.pass) c.in-Ok.told.0 c.in-Ok.told.1
     (g.H.Host.served c.make_all.new.outside.host.now) (g.H.Host.served c.run_and_join.new.outside.host.now) (g.H.Host.served c.args.outside.now.host.now) (g.C.Clock.given c.make_all.new.outside.clock.now) (g.C.Clock.given c.run_and_join.new.outside.clock.now) (g.C.Clock.given c.args.outside.now.clock.now)
     (hosted_at g.H.Host c.make_all.new.outside.host.now) (hosted_at g.H.Host c.run_and_join.new.outside.host.now) (hosted_at g.H.Host c.args.outside.now.host.now) (g.C.Clock.faults c.make_all.new.outside.clock.now) (g.C.Clock.faults c.run_and_join.new.outside.clock.now) (g.C.Clock.faults c.args.outside.now.clock.now)
     (g.W.Waiter.waits c.make_all.new.outside.waiter.now) (g.W.Waiter.waits c.run_and_join.new.outside.waiter.now) (g.W.Waiter.waits c.args.outside.now.waiter.now) (devices_of c.make_all.new.made.items (λ worker. was_at worker.duty)) c.make_all.new.outside.devices.now.items c.run_and_join.new.outside.devices.now.items

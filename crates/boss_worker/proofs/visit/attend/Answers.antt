@@ -1,4 +1,4 @@
-use Rattle.std.proofs.Common.{ℕ, Bool, false, List, sym, ◌∙◌, subst, None}
+use Rattle.std.proofs.Common.{ℕ, Bool, false, List, sym, ◌∙◌, subst, None, option_copied}
 use Rattle.def_lanes.specs.Lanes.{of_session}
 use Rattle.boss_outside_server.specs.Pauses.{watch_idle, watch_pause}
 use Rattle.def_lanes.specs.Parts.{Added}
@@ -20,13 +20,13 @@ use Rattle.boss_worker.proofs.visit.attend.Goals as goal
 pub returns-in-Watch-clause-added : goal.returns-in-Watch-clause-added
 returns-in-Watch-clause-added g c =
     let served = served_of g.S.Source g.K.Sink c.args.session c.serve_connection.new.source c.watch_connection.new.sink in
-    subst (λ trouble. (moments : List ℕ) × (closed : Bool) × Added (actuators c.args.catalogue.now) (of_session c.args.session) (λ entries. g.S.Source.tells → IsVisit c.args.catalogue.now (g.G.Desk.denies c.args.desk.now) g.K.Sink.tells served (course_by moments trouble closed) entries)
+    subst (λ trouble. (moments : List ℕ) × (closed : Bool) × Added (actuators c.args.catalogue.now) (of_session c.args.session) (λ entries. g.S.Source.tells → IsVisit c.args.catalogue.now (g.G.Desk.denies c.args.desk.now) (option_copied c.args.keys) g.K.Sink.tells served (course_by moments trouble closed) entries)
     g.C.Clock.tells moments (own_of g.G.Desk c.args.pass.now) (own_of g.G.Desk c.watch_connection.new.pass) (g.C.Clock.given c.args.clock.now) (g.C.Clock.given c.watch_connection.new.clock)
     × (g.W.Waiter.tells → HasClosed closed (g.W.Waiter.waited c.args.waiter.now).closes (g.W.Waiter.waited c.watch_connection.new.waiter).closes))
     (sym c.watch_trouble.ensures) (
       c.watch_connection.ensures.watched.moments,
       is_closed_end c.watch_connection.result,
-      watch-visit c.args.catalogue.now (g.G.Desk.denies c.args.desk.now) g.S.Source.tells g.K.Sink.tells g.C.Clock.tells served c.requires.some (g.S.Source.left c.args.input.now)
+      watch-visit c.args.catalogue.now (g.G.Desk.denies c.args.desk.now) (option_copied c.args.keys) g.S.Source.tells g.K.Sink.tells g.C.Clock.tells served c.requires.some (g.S.Source.left c.args.input.now)
           (λ told. c.serve_connection.ensures.held told ∙ sym c.requires.fresh.whole)
           (own_of g.G.Desk c.args.pass.now) (own_of g.G.Desk c.watch_connection.new.pass) (g.K.Sink.taken c.args.output.now) (g.K.Sink.faults c.args.output.now)
           c.requires.fresh.empty c.requires.fresh.no_write_failed (g.C.Clock.given c.args.clock.now) (g.C.Clock.given c.watch_connection.new.clock)
@@ -49,13 +49,13 @@ returns-in-Watch-clause-broken g c = λ is. broken-watched c.watch_connection.re
 pub returns-in_default-clause-added : goal.returns-in_default-clause-added
 returns-in_default-clause-added g c =
     let served = served_of g.S.Source g.K.Sink c.args.session c.serve_connection.new.source c.serve_connection.new.sink in
-    subst (λ trouble. (moments : List ℕ) × (closed : Bool) × Added (actuators c.args.catalogue.now) (of_session c.args.session) (λ entries. g.S.Source.tells → IsVisit c.args.catalogue.now (g.G.Desk.denies c.args.desk.now) g.K.Sink.tells served (course_by moments trouble closed) entries)
+    subst (λ trouble. (moments : List ℕ) × (closed : Bool) × Added (actuators c.args.catalogue.now) (of_session c.args.session) (λ entries. g.S.Source.tells → IsVisit c.args.catalogue.now (g.G.Desk.denies c.args.desk.now) (option_copied c.args.keys) g.K.Sink.tells served (course_by moments trouble closed) entries)
     g.C.Clock.tells moments (own_of g.G.Desk c.args.pass.now) (own_of g.G.Desk c.serve_connection.new.pass) (g.C.Clock.given c.args.clock.now) (g.C.Clock.given c.serve_connection.new.clock)
     × (g.W.Waiter.tells → HasClosed closed (g.W.Waiter.waited c.args.waiter.now).closes (g.W.Waiter.waited c.args.waiter.now).closes))
     (sym c.session_trouble.ensures) (
       c.serve_connection.ensures.connected.talked.moments,
       false,
-      talk-visit c.args.catalogue.now (g.G.Desk.denies c.args.desk.now) g.S.Source.tells g.K.Sink.tells g.C.Clock.tells served c.requires.some (g.S.Source.left c.args.input.now)
+      talk-visit c.args.catalogue.now (g.G.Desk.denies c.args.desk.now) (option_copied c.args.keys) g.S.Source.tells g.K.Sink.tells g.C.Clock.tells served c.requires.some (g.S.Source.left c.args.input.now)
           (λ told. c.serve_connection.ensures.held told ∙ sym c.requires.fresh.whole)
           (own_of g.G.Desk c.args.pass.now) (own_of g.G.Desk c.serve_connection.new.pass) (g.K.Sink.taken c.args.output.now) (g.K.Sink.faults c.args.output.now)
           c.requires.fresh.empty c.requires.fresh.no_write_failed (g.C.Clock.given c.args.clock.now) (g.C.Clock.given c.serve_connection.new.clock)

@@ -1,4 +1,4 @@
-use Rattle.std.proofs.Common.{◌+◌, [], ◌++◌, true, ◌∷◌, refl, sym, ap, ◌∙◌, subst, arith}
+use Rattle.std.proofs.Common.{◌+◌, [], ◌++◌, true, ◌∷◌, refl, sym, ap, ◌∙◌, subst, arith, option_copied}
 use Rattle.boss_outside_server.specs.Pauses.{watch_pause}
 use Rattle.def_lanes.proofs.WaitLemmas.{around-both, around-none, closed-more}
 use Rattle.def_lanes.specs.Works.{visit}
@@ -24,7 +24,7 @@ connections-init g c = record {
   share = refl;
   within = omega (arith, c.requires.fresh.handed);
   works = [];
-  so_far = so-far-first (terms_of c.args.server.now.catalogue.now (g.G.Desk.denies c.args.server.now.desk) c.args.server.now.workers g.H.In.Source.tells g.H.Out.Sink.tells g.H.Host.tells g.C.Clock.tells g.W.Waiter.tells) c.args.number
+  so_far = so-far-first (terms_of c.args.server.now.catalogue.now (g.G.Desk.denies c.args.server.now.desk) (option_copied c.args.server.now.keys) c.args.server.now.workers g.H.In.Source.tells g.H.Out.Sink.tells g.H.Host.tells g.C.Clock.tells g.W.Waiter.tells) c.args.number
       (own_of g.G.Desk c.args.pass.now) (g.H.Host.served c.args.host.now) (g.C.Clock.given c.args.clock.now) (g.H.Host.handed c.args.host.now) _ _ c.requires.empty c.requires.fresh.handed (ap (λ n. 1 + n) c.from-next.ensures);
   small = omega (arith, c.from-next.ensures, c.requires.number, c.requires.few);
   counted = sym c.requires.fresh.handed;
@@ -51,14 +51,14 @@ connections-preserved g c =
       share = c.give_back.ensures.counts.1 ∙ c.accept.ensures.share ∙ inv.share;
       within = omega (arith, c.give_back.ensures.counts.0, c.in-Conn.ensures.count.0, c.in-Conn.ensures.count.1, inv.share);
       works = inv.works ++ visit one (course_by c.attend-trouble.ensures.added.0 c.attend-trouble.result c.attend-trouble.ensures.added.1) ∷ [];
-      so_far = subst (λ f. SoFar (terms_of c.args.server.now.catalogue.now (g.G.Desk.denies c.args.server.now.desk) c.args.server.now.workers g.H.In.Source.tells g.H.Out.Sink.tells g.H.Host.tells g.C.Clock.tells g.W.Waiter.tells) c.args.number (inv.works ++ visit one (course_by c.attend-trouble.ensures.added.0 c.attend-trouble.result c.attend-trouble.ensures.added.1) ∷ [])
+      so_far = subst (λ f. SoFar (terms_of c.args.server.now.catalogue.now (g.G.Desk.denies c.args.server.now.desk) (option_copied c.args.server.now.keys) c.args.server.now.workers g.H.In.Source.tells g.H.Out.Sink.tells g.H.Host.tells g.C.Clock.tells g.W.Waiter.tells) c.args.number (inv.works ++ visit one (course_by c.attend-trouble.ensures.added.0 c.attend-trouble.result c.attend-trouble.ensures.added.1) ∷ [])
           (own_of g.G.Desk c.attend-trouble.new.pass) (g.H.Host.served c.args.host.now) (g.H.Host.served c.give_back.new.self) (g.C.Clock.given c.args.clock.now) (g.C.Clock.given c.attend-trouble.new.clock)
           (g.H.Host.handed c.give_back.new.self) (c.connections.next + c.from-next-in-Conn.result) f) (sym c.after-flags.ensures)
-          (so-far-more (terms_of c.args.server.now.catalogue.now (g.G.Desk.denies c.args.server.now.desk) c.args.server.now.workers g.H.In.Source.tells g.H.Out.Sink.tells g.H.Host.tells g.C.Clock.tells g.W.Waiter.tells) c.args.number inv.works
+          (so-far-more (terms_of c.args.server.now.catalogue.now (g.G.Desk.denies c.args.server.now.desk) (option_copied c.args.server.now.keys) c.args.server.now.workers g.H.In.Source.tells g.H.Out.Sink.tells g.H.Host.tells g.C.Clock.tells g.W.Waiter.tells) c.args.number inv.works
           (own_of g.G.Desk c.connections.pass) (own_of g.G.Desk c.attend-trouble.new.pass) (g.H.Host.served c.args.host.now) (g.H.Host.served c.connections.host) (g.H.Host.served c.give_back.new.self)
           (g.C.Clock.given c.args.clock.now) (g.C.Clock.given c.connections.clock) (g.C.Clock.given c.attend-trouble.new.clock) (g.H.Host.handed c.connections.host) (g.H.Host.handed c.give_back.new.self)
           c.connections.next (c.connections.next + c.from-next-in-Conn.result) c.connections.flags c.attend-trouble.result one c.attend-trouble.ensures.added.0 c.attend-trouble.ensures.added.1 inv.so_far
-          (visit-timed c.args.server.now.catalogue.now (g.G.Desk.denies c.args.server.now.desk) g.H.In.Source.tells g.H.Out.Sink.tells g.C.Clock.tells one c.attend-trouble.result c.attend-trouble.ensures.added.1 c.attend-trouble.ensures.added.0
+          (visit-timed c.args.server.now.catalogue.now (g.G.Desk.denies c.args.server.now.desk) (option_copied c.args.server.now.keys) g.H.In.Source.tells g.H.Out.Sink.tells g.C.Clock.tells one c.attend-trouble.result c.attend-trouble.ensures.added.1 c.attend-trouble.ensures.added.0
           (own_of g.G.Desk c.connections.pass) (own_of g.G.Desk c.attend-trouble.new.pass) (g.C.Clock.given c.connections.clock) (g.C.Clock.given c.attend-trouble.new.clock) c.attend-trouble.ensures.added.2)
           (λ told. c.give_back.ensures.connections told ∙ ap (λ list. list ++ one ∷ []) (c.accept.ensures.connections told)) refl c.requires.number
           (c.give_back.ensures.counts.0 ∙ c.in-Conn.ensures.count.1) (ap (λ n. c.connections.next + n) c.from-next-in-Conn.ensures));
@@ -89,18 +89,18 @@ returns-in-Disk-clause-left g c =
     let inv = c.connections.invariant in
     let one = served_of g.H.In.Source g.H.Out.Sink c.connections.next c.attend-trouble.new.input c.attend-trouble.new.output in (
       inv.works ++ visit one (course_by c.attend-trouble.ensures.added.0 c.attend-trouble.result c.attend-trouble.ensures.added.1) ∷ [],
-      left-broken (terms_of c.args.server.now.catalogue.now (g.G.Desk.denies c.args.server.now.desk) c.args.server.now.workers g.H.In.Source.tells g.H.Out.Sink.tells g.H.Host.tells g.C.Clock.tells g.W.Waiter.tells) c.args.number (g.H.Host.share c.args.host.now) (inv.works ++ visit one (course_by c.attend-trouble.ensures.added.0 c.attend-trouble.result c.attend-trouble.ensures.added.1) ∷ [])
+      left-broken (terms_of c.args.server.now.catalogue.now (g.G.Desk.denies c.args.server.now.desk) (option_copied c.args.server.now.keys) c.args.server.now.workers g.H.In.Source.tells g.H.Out.Sink.tells g.H.Host.tells g.C.Clock.tells g.W.Waiter.tells) c.args.number (g.H.Host.share c.args.host.now) (inv.works ++ visit one (course_by c.attend-trouble.ensures.added.0 c.attend-trouble.result c.attend-trouble.ensures.added.1) ∷ [])
           (own_of g.G.Desk c.attend-trouble.new.pass) (g.G.Desk.seen c.attend-trouble.new.pass) (g.H.Host.served c.args.host.now) (g.H.Host.served c.give_back.new.self)
           (g.C.Clock.given c.args.clock.now) (g.C.Clock.given c.attend-trouble.new.clock) (g.H.Host.handed c.give_back.new.self) (c.connections.next + c.args.server.now.workers)
           (g.H.Host.faults c.give_back.new.self) (g.C.Clock.faults c.attend-trouble.new.clock) c.after-flags.result
-          (subst (λ f. SoFar (terms_of c.args.server.now.catalogue.now (g.G.Desk.denies c.args.server.now.desk) c.args.server.now.workers g.H.In.Source.tells g.H.Out.Sink.tells g.H.Host.tells g.C.Clock.tells g.W.Waiter.tells) c.args.number (inv.works ++ visit one (course_by c.attend-trouble.ensures.added.0 c.attend-trouble.result c.attend-trouble.ensures.added.1) ∷ [])
+          (subst (λ f. SoFar (terms_of c.args.server.now.catalogue.now (g.G.Desk.denies c.args.server.now.desk) (option_copied c.args.server.now.keys) c.args.server.now.workers g.H.In.Source.tells g.H.Out.Sink.tells g.H.Host.tells g.C.Clock.tells g.W.Waiter.tells) c.args.number (inv.works ++ visit one (course_by c.attend-trouble.ensures.added.0 c.attend-trouble.result c.attend-trouble.ensures.added.1) ∷ [])
           (own_of g.G.Desk c.attend-trouble.new.pass) (g.H.Host.served c.args.host.now) (g.H.Host.served c.give_back.new.self) (g.C.Clock.given c.args.clock.now) (g.C.Clock.given c.attend-trouble.new.clock)
           (g.H.Host.handed c.give_back.new.self) (c.connections.next + c.args.server.now.workers) f) (sym c.after-flags.ensures)
-          (so-far-more (terms_of c.args.server.now.catalogue.now (g.G.Desk.denies c.args.server.now.desk) c.args.server.now.workers g.H.In.Source.tells g.H.Out.Sink.tells g.H.Host.tells g.C.Clock.tells g.W.Waiter.tells) c.args.number inv.works
+          (so-far-more (terms_of c.args.server.now.catalogue.now (g.G.Desk.denies c.args.server.now.desk) (option_copied c.args.server.now.keys) c.args.server.now.workers g.H.In.Source.tells g.H.Out.Sink.tells g.H.Host.tells g.C.Clock.tells g.W.Waiter.tells) c.args.number inv.works
           (own_of g.G.Desk c.connections.pass) (own_of g.G.Desk c.attend-trouble.new.pass) (g.H.Host.served c.args.host.now) (g.H.Host.served c.connections.host) (g.H.Host.served c.give_back.new.self)
           (g.C.Clock.given c.args.clock.now) (g.C.Clock.given c.connections.clock) (g.C.Clock.given c.attend-trouble.new.clock) (g.H.Host.handed c.connections.host) (g.H.Host.handed c.give_back.new.self)
           c.connections.next (c.connections.next + c.args.server.now.workers) c.connections.flags c.attend-trouble.result one c.attend-trouble.ensures.added.0 c.attend-trouble.ensures.added.1 inv.so_far
-          (visit-timed c.args.server.now.catalogue.now (g.G.Desk.denies c.args.server.now.desk) g.H.In.Source.tells g.H.Out.Sink.tells g.C.Clock.tells one c.attend-trouble.result c.attend-trouble.ensures.added.1 c.attend-trouble.ensures.added.0
+          (visit-timed c.args.server.now.catalogue.now (g.G.Desk.denies c.args.server.now.desk) (option_copied c.args.server.now.keys) g.H.In.Source.tells g.H.Out.Sink.tells g.C.Clock.tells one c.attend-trouble.result c.attend-trouble.ensures.added.1 c.attend-trouble.ensures.added.0
           (own_of g.G.Desk c.connections.pass) (own_of g.G.Desk c.attend-trouble.new.pass) (g.C.Clock.given c.connections.clock) (g.C.Clock.given c.attend-trouble.new.clock) c.attend-trouble.ensures.added.2)
           (λ told. c.give_back.ensures.connections told ∙ ap (λ list. list ++ one ∷ []) (c.accept.ensures.connections told)) refl c.requires.number
           (c.give_back.ensures.counts.0 ∙ c.in-Conn.ensures.count.1) refl))
@@ -116,15 +116,15 @@ pub returns-in-Failed-clause-left : goal.returns-in-Failed-clause-left
 returns-in-Failed-clause-left g c =
     let inv = c.connections.invariant in (
       inv.works,
-      subst (λ f. Left true (terms_of c.args.server.now.catalogue.now (g.G.Desk.denies c.args.server.now.desk) c.args.server.now.workers g.H.In.Source.tells g.H.Out.Sink.tells g.H.Host.tells g.C.Clock.tells g.W.Waiter.tells) c.args.number (g.H.Host.share c.args.host.now) inv.works
+      subst (λ f. Left true (terms_of c.args.server.now.catalogue.now (g.G.Desk.denies c.args.server.now.desk) (option_copied c.args.server.now.keys) c.args.server.now.workers g.H.In.Source.tells g.H.Out.Sink.tells g.H.Host.tells g.C.Clock.tells g.W.Waiter.tells) c.args.number (g.H.Host.share c.args.host.now) inv.works
           (own_of g.G.Desk c.connections.pass) (g.G.Desk.seen c.connections.pass) (g.H.Host.served c.args.host.now) (g.H.Host.served c.accept.new.self)
           (g.C.Clock.given c.args.clock.now) (g.C.Clock.given c.connections.clock) (g.H.Host.handed c.accept.new.self) (g.H.Host.faults c.accept.new.self) (g.C.Clock.faults c.connections.clock) f)
           (sym c.with_failed_host.ensures)
-          (left-failed (terms_of c.args.server.now.catalogue.now (g.G.Desk.denies c.args.server.now.desk) c.args.server.now.workers g.H.In.Source.tells g.H.Out.Sink.tells g.H.Host.tells g.C.Clock.tells g.W.Waiter.tells) c.args.number (g.H.Host.share c.args.host.now) inv.works
+          (left-failed (terms_of c.args.server.now.catalogue.now (g.G.Desk.denies c.args.server.now.desk) (option_copied c.args.server.now.keys) c.args.server.now.workers g.H.In.Source.tells g.H.Out.Sink.tells g.H.Host.tells g.C.Clock.tells g.W.Waiter.tells) c.args.number (g.H.Host.share c.args.host.now) inv.works
           (own_of g.G.Desk c.connections.pass) (g.G.Desk.seen c.connections.pass) (g.H.Host.served c.args.host.now) (g.H.Host.served c.accept.new.self)
           (g.C.Clock.given c.args.clock.now) (g.C.Clock.given c.connections.clock) (g.H.Host.handed c.accept.new.self) c.connections.next
           (g.H.Host.faults c.accept.new.self) (g.C.Clock.faults c.connections.clock) c.connections.flags
-          (so-far-same (terms_of c.args.server.now.catalogue.now (g.G.Desk.denies c.args.server.now.desk) c.args.server.now.workers g.H.In.Source.tells g.H.Out.Sink.tells g.H.Host.tells g.C.Clock.tells g.W.Waiter.tells) c.args.number inv.works (own_of g.G.Desk c.connections.pass)
+          (so-far-same (terms_of c.args.server.now.catalogue.now (g.G.Desk.denies c.args.server.now.desk) (option_copied c.args.server.now.keys) c.args.server.now.workers g.H.In.Source.tells g.H.Out.Sink.tells g.H.Host.tells g.C.Clock.tells g.W.Waiter.tells) c.args.number inv.works (own_of g.G.Desk c.connections.pass)
           (g.H.Host.served c.args.host.now) (g.H.Host.served c.connections.host) (g.H.Host.served c.accept.new.self) (g.C.Clock.given c.args.clock.now) (g.C.Clock.given c.connections.clock)
           (g.H.Host.handed c.connections.host) (g.H.Host.handed c.accept.new.self) c.connections.next c.connections.flags inv.so_far c.accept.ensures.connections c.in-Failed.ensures.count.1)
           inv.no_disk (omega (arith, c.in-Failed.ensures.cause)) inv.ticked inv.cuts),

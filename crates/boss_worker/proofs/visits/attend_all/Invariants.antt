@@ -1,4 +1,4 @@
-use Rattle.std.proofs.Common.{◌≡◌, ℕ, ◌+◌, ◌*◌, ◌-◌, ◌^◌, ◌≤◌, min, false, List, None}
+use Rattle.std.proofs.Common.{◌≡◌, ℕ, ◌+◌, ◌*◌, ◌-◌, ◌^◌, ◌≤◌, min, false, List, None, option_copied}
 use Rattle.boss_model.specs.Limits.{most_workers}
 use Rattle.boss_outside_server.specs.Pauses.{watch_pause}
 use Rattle.def_lanes.specs.Waits.{CountsClosed, PausedAround}
@@ -21,7 +21,7 @@ invariant-connections g l = record {
   share : g.H.Host.share l.host ≡ g.H.Host.share l.fn.host;
   within : g.H.Host.handed l.host ≤ g.H.Host.share l.fn.host;
   works : List Work;
-  so_far : SoFar (terms_of l.server.catalogue.now (g.G.Desk.denies l.server.desk) l.server.workers g.H.In.Source.tells g.H.Out.Sink.tells g.H.Host.tells g.C.Clock.tells g.W.Waiter.tells) l.number works
+  so_far : SoFar (terms_of l.server.catalogue.now (g.G.Desk.denies l.server.desk) (option_copied l.server.keys) l.server.workers g.H.In.Source.tells g.H.Out.Sink.tells g.H.Host.tells g.C.Clock.tells g.W.Waiter.tells) l.number works
       (own_of g.G.Desk l.pass) (g.H.Host.served l.fn.host) (g.H.Host.served l.host) (g.C.Clock.given l.fn.clock) (g.C.Clock.given l.clock)
       (g.H.Host.handed l.host) l.next l.flags;
   small : l.next ≤ most_workers + most_workers * g.H.Host.handed l.host;
