@@ -3,6 +3,7 @@ pub mod DroveLemmas
 pub mod DutyLemmas
 pub mod EndedLemmas
 pub mod FlagLemmas
+pub mod KeyedLemmas
 pub mod LeftLemmas
 pub mod VisitLemmas
 pub mod WorkerLemmas

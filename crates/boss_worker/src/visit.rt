@@ -54,7 +54,9 @@ pub(crate) fn attend<G: Desk, S: Hears<K>, K: Sink, C: Clock, W: Waiter>(
     ensures clocked { ClockTrouble (C.faults clock.old) (C.faults clock.new) result }
     ensures broken { result ≡ Disk → is_broken (G.seen pass.new) ≡ true }
 {
-    match serve_connection(alloc, desk, pass, catalogue, keys, session, input, output, clock) {
+    match serve_connection(
+        alloc, desk, pass, catalogue, keys, session, input, output, clock,
+    ) {
         SessionEnd::Watch { name, from } => {
             waiter.listen(name_bell(&name));
             watch_trouble(watch_connection(

@@ -1,5 +1,5 @@
 -- The device of a settled point, as a server gives it back.
-use Rattle.std.proofs.Common.{◌≡◌, inl, inr, ℕ, ◌+◌, ◌<◌, ◌≤◌, Bool, false, List, ◌++◌, length, Some, None, refl, ap, sym, ◌∙◌, subst, arith}
+use Rattle.std.proofs.Common.{◌≡◌, inl, inr, ℕ, ◌+◌, ◌<◌, ◌≤◌, Bool, false, List, ◌++◌, length, Some, None, refl, ap, sym, ◌∙◌, subst, arith, Option}
 use Rattle.std.specs.Prelude.{slice_get}
 use Rattle.boss_model.specs.Catalogue.{Catalogue, actuators, driver_of}
 use Rattle.boss_model.specs.DeviceCall.{DeviceCall}
@@ -11,6 +11,7 @@ use Rattle.def_lanes.specs.Works.{owner, calls_in}
 use Rattle.boss_outside_server.specs.Hosts.{Served}
 use Rattle.boss_outside_server.specs.declared.waited.Waited.{Waited}
 use Rattle.boss_shared.specs.Gates.{Gate}
+use Rattle.boss_keys.specs.declared.entry.Entry.{Entry as KeyEntry}
 use Rattle.boss_worker.specs.declared.flags.Flags.{Flags}
 use Rattle.boss_worker.specs.Saying.{terms_of}
 use Rattle.boss_shared.specs.declared.keeper.Keeper as keeper
@@ -40,7 +41,7 @@ module _ {A : Type 0} (calls : A → List DeviceCall) (whole : A → Type 0) (ca
   device-last point d heard known legal settled =
       let plant = actuators catalogue in
       let driver = driver_of plant point in
-      let last = works-opened catalogue gates heeds tells pausing point log d account.works heard known legal account.together.part.agreed settled in
+      let last = works-opened catalogue gates keys heeds tells pausing point log d account.works heard known legal account.together.part.agreed settled in
       let below : driver < length was = driven-below driver point _ last in
       let there = back-at calls whole driver 0 was account.back account.works account.returned.back below in
       let stands : slice_get devices driver ≡ Some there.1 = ap (λ ds. slice_get ds driver) account.devices_are ∙ at-front account.back others driver there.1 there.2 in
@@ -69,5 +70,5 @@ module _ {K A : Type 0} (k : keeper.Ghosts K) (calls : A → List DeviceCall) (w
       let legal : IsLegal plant log (opened plant d) = subst (IsLegal plant log) begins (subst (λ p. IsLegal p log (k.state start)) (sym same) ran.held.legal) in
       let ends : run plant log (opened plant d) ≡ k.state end = ap (run plant log) (sym begins) ∙ ap (λ p. run p log (k.state start)) same ∙ sym (ran.held.state_is running) in
       subst (λ s. (device : A) × (slice_get devices (driver_of plant point) ≡ Some device) × (whole device → last_call point (calls device) ≡ Some (taking_target plant s point))) ends
-      (device-last calls whole catalogue gates heeds tells hosting clocking pausing workers n shares log log served served' given given' hosted hosted' ticked ticked' waits waits' was others devices flags unrun
+      (device-last calls whole catalogue gates keys heeds tells hosting clocking pausing workers n shares log log served served' given given' hosted hosted' ticked ticked' waits waits' was others devices flags unrun
       ran.account point d heard known legal (subst (λ s. IsSettled s point) (sym ends) settled))

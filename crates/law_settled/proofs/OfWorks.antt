@@ -25,6 +25,7 @@ use Rattle.boss_outside_server.specs.declared.waited.Waited.{Waited}
 use Rattle.boss_outside_server.specs.Waits.{new_waited}
 use Rattle.def_guards.specs.Guards.{is_guarded}
 use Rattle.boss_shared.specs.Gates.{Gate}
+use Rattle.boss_keys.specs.declared.entry.Entry.{Entry as KeyEntry}
 use Rattle.boss_worker.specs.Saying.{IsDriven, says}
 use Rattle.law_settled.specs.Settled.{IsApart, IsSettled, taking_target, last_from, last_call}
 use Rattle.law_settled.proofs.Told.{Told, told_in, told_at, took_at}
@@ -157,10 +158,10 @@ pub works-opened : (catalogue : Catalogue) (gates : List Gate) (keys : Option (L
     heeds → point < length (actuators catalogue) → IsLegal (actuators catalogue) log (opened (actuators catalogue) d) →
     Agreed (actuators catalogue) (says catalogue gates keys heeds tells pausing) log works → IsSettled (run (actuators catalogue) log (opened (actuators catalogue) d)) point →
     last_call point (calls_in (driver_of (actuators catalogue) point) works) ≡ Some (taking_target (actuators catalogue) (run (actuators catalogue) log (opened (actuators catalogue) d)) point)
-works-opened catalogue gates heeds tells pausing point log d works heard known legal agreed settled =
+works-opened catalogue gates keys heeds tells pausing point log d works heard known legal agreed settled =
     let plant = actuators catalogue in
     last-opened plant point d _ (calls_in (driver_of plant point) works) known
-    (works-last catalogue gates heeds tells pausing point log (opened plant d) works known legal (all-apart catalogue gates heeds tells pausing log heard works agreed) agreed _
+    (works-last catalogue gates keys heeds tells pausing point log (opened plant d) works known legal (all-apart catalogue gates keys heeds tells pausing log heard works agreed) agreed _
     (settled-opened plant point log d known legal settled))
 
 -- what a settled point's state tells
@@ -185,10 +186,10 @@ pub works-sound : (catalogue : Catalogue) (gates : List Gate) (keys : Option (Li
     heeds → point < length (actuators catalogue) → IsSound (actuators catalogue) s → IsLegal (actuators catalogue) log s →
     Agreed (actuators catalogue) (says catalogue gates keys heeds tells pausing) log works → IsSettled (run (actuators catalogue) log s) point →
     IsStill (actuators catalogue) s point (target (actuators catalogue) (run (actuators catalogue) log s).persistent point) (calls_in (driver_of (actuators catalogue) point) works)
-works-sound catalogue gates heeds tells pausing point log s works heard known sound legal agreed settled =
+works-sound catalogue gates keys heeds tells pausing point log s works heard known sound legal agreed settled =
     let plant = actuators catalogue in
     still-sound plant point s _ (calls_in (driver_of plant point) works) (commanded-sound plant point s known sound)
-    (works-last catalogue gates heeds tells pausing point log s works known legal (all-apart catalogue gates heeds tells pausing log heard works agreed) agreed _
+    (works-last catalogue gates keys heeds tells pausing point log s works known legal (all-apart catalogue gates keys heeds tells pausing log heard works agreed) agreed _
     (settled-sound plant point log s known sound legal settled))
 
 -- ---- devices

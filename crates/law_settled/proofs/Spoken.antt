@@ -2,6 +2,7 @@
 use Rattle.std.proofs.Common.{◌≡◌, ◌⊎◌, inl, inr, ℕ, zero, suc, ◌==◌, Bool, true, false, cond, List, [], ◌∷◌, Option, Some, None, refl, ap, sym, ◌∙◌, subst, arith}
 use Rattle.std.specs.Prelude.{option_map}
 use Rattle.std.specs.List.{AllByRecursion, filter}
+use Rattle.std.proofs.lemmas.Bool.{cond_both}
 use Rattle.std.proofs.lemmas.Bool.Decides.{nat_tests}
 use Rattle.serde_json.specs.Data.{Data}
 use Rattle.serde_json.specs.Find.{as_str}
@@ -25,7 +26,7 @@ use Rattle.def_wire.specs.Requests.{Parsed, asks as asks_that, wrong, ◌>>=◌,
 use Rattle.def_history.specs.declared.entry.Entry.{Entry}
 use Rattle.def_history.specs.declared.entry.Entry.TheVariants.{Did, Broke}
 use Rattle.def_history.specs.History.{deeds}
-use Rattle.def_connection.specs.Speech.{asks, Reply, of_answer, of_memory, of_stop, of_denial, Exchange, unread, refused, called, AreRead, entry_of, deeds_in, parting_of}
+use Rattle.def_connection.specs.Speech.{Reading, asks, watches, refuses, forbids, Footing, beginning, after_exchange, Reply, of_answer, of_memory, of_stop, of_denial, Exchange, unread, refused, called, AreRead, entry_of, deeds_in, parting_of}
 use Rattle.def_connection.specs.Watching.{watched_in, next_from}
 use Rattle.def_lanes.specs.Lanes.{of_session, in_lane, done_in}
 use Rattle.def_lanes.specs.Parts.{Agreed}
@@ -34,7 +35,11 @@ use Rattle.def_lanes.proofs.Lists.{each-append}
 use Rattle.def_lanes.proofs.Owners.{is_lane-self}
 use Rattle.boss_outside_server.specs.Hosts.{Served}
 use Rattle.boss_shared.specs.Gates.{Gate}
-use Rattle.boss_sessions.specs.Speaking.{form_of, reading_in, reading_of, reading_of_ask}
+use Rattle.boss_callers.specs.declared.shown.Shown.{Shown}
+use Rattle.boss_callers.specs.declared.shown.Shown.TheVariants.{NoObject, Key, WrongKey}
+use Rattle.boss_callers.specs.Shown.{shown_by}
+use Rattle.boss_sessions.specs.Speaking.{asked_in, form_of, guarded, is_other, manner_of, owned, reading_in, reading_of, reading_of_ask}
+use Rattle.boss_keys.specs.declared.entry.Entry.{Entry as KeyEntry}
 use Rattle.boss_worker.specs.Saying.{IsVisit, says}
 use Rattle.law_settled.specs.Settled.{serves, IsApart}
 
@@ -100,6 +105,26 @@ unfolding Says
 quiet-reading (asks_that request) c quiet is = quiet-ask request.ask c quiet is
 quiet-reading (wrong why) c quiet is = absurd cc
 
+-- whatever is known of who speaks, a line asks for what it asks by itself, or for nothing
+owned-asks : (name : List ℕ) (reading : Reading) (c : Command) → owned name reading ≡ asks c → reading ≡ asks c
+owned-asks name (asks asked) c is = cond_both (is_other name asked) forbids (asks asked) (λ read. read ≡ asks c → asks asked ≡ asks c) (λ _ no. absurd cc) (λ _ same. same) is
+owned-asks name (watches process from) c is = is
+owned-asks name (refuses why) c is = is
+owned-asks name forbids c is = is
+
+guarded-asks : (known : Option (List ℕ)) (shown : Shown) (reading : Reading) (c : Command) → guarded known shown reading ≡ asks c → reading ≡ asks c
+guarded-asks (Some name) shown reading c is = owned-asks name reading c is
+guarded-asks None NoObject reading c is = is
+guarded-asks None (Key name) reading c is = owned-asks name reading c is
+guarded-asks None WrongKey reading c is = absurd cc
+
+quiet-line : (catalogue : Catalogue) (later : Bool) (line : List ℕ) (c : Command) → asked_in catalogue later line ≡ asks c → serves c ≡ false
+quiet-line catalogue later line c is = quiet-reading (parsed catalogue (form_of later) line) c (line-quiet catalogue (form_of later) line) is
+
+quiet-read : (catalogue : Catalogue) (keys : Option (List KeyEntry)) (at : Footing) (line : List ℕ) (c : Command) → reading_in catalogue keys at line ≡ asks c → serves c ≡ false
+quiet-read catalogue None at line c is = quiet-line catalogue at.later line c is
+quiet-read catalogue (Some keys) at line c is = quiet-line catalogue at.later line c (guarded-asks at.known (shown_by keys line) (asked_in catalogue at.later line) c is)
+
 -- ---- what is said on a connection
 
 apart-quiet : (session moment : ℕ) (c : Command) (given : Answer) → serves c ≡ false → IsApart (Did session c moment given)
@@ -112,14 +137,15 @@ apart-entry session moment c of_memory quiet = tt
 apart-entry session moment c of_stop quiet = tt
 apart-entry session moment c (of_denial index rule) quiet = tt
 
-apart-talk : (catalogue : Catalogue) (session : ℕ) (later : Bool) (talk : List Exchange) → AreRead (reading_in catalogue) later talk → AllByRecursion IsApart (deeds_in session talk)
-apart-talk catalogue session later [] read = tt
-apart-talk catalogue session later (unread line ∷ talk) read = apart-talk catalogue session true talk read.1
-apart-talk catalogue session later (refused line why ∷ talk) read = apart-talk catalogue session true talk read.1
-apart-talk catalogue session later (called line c moment reply ∷ talk) read =
+apart-talk : (catalogue : Catalogue) (keys : Option (List KeyEntry)) (session : ℕ) (at : Footing) (talk : List Exchange) → AreRead (manner_of catalogue keys) at talk →
+    AllByRecursion IsApart (deeds_in session talk)
+apart-talk catalogue keys session at [] read = tt
+apart-talk catalogue keys session at (unread line ∷ talk) read = apart-talk catalogue keys session (after_exchange (manner_of catalogue keys) at (unread line)) talk read.1
+apart-talk catalogue keys session at (refused line why ∷ talk) read = apart-talk catalogue keys session (after_exchange (manner_of catalogue keys) at (refused line why)) talk read.1
+apart-talk catalogue keys session at (called line c moment reply ∷ talk) read =
     each-append IsApart (entry_of session c moment reply) (deeds_in session talk)
-    (apart-entry session moment c reply (quiet-reading (parsed catalogue (form_of later) line) c (line-quiet catalogue (form_of later) line) read.0))
-    (apart-talk catalogue session true talk read.1)
+    (apart-entry session moment c reply (quiet-read catalogue keys at line c read.0))
+    (apart-talk catalogue keys session (after_exchange (manner_of catalogue keys) at (called line c moment reply)) talk read.1)
 
 apart-parting : (session moment : ℕ) (parting : Option Answer) → AllByRecursion IsApart (parting_of session moment parting)
 apart-parting session moment None = tt
@@ -132,11 +158,11 @@ apart-watched session name from (turn ∷ turns) =
 
 apart-visit : (catalogue : Catalogue) (gates : List Gate) (keys : Option (List KeyEntry)) (tells : Type 0) (served : Served) (course : Course) (entries : List Entry) → IsVisit catalogue gates keys tells served course entries →
     AllByRecursion IsApart entries
-apart-visit catalogue gates tells served course entries (inl talks) =
+apart-visit catalogue gates keys tells served course entries (inl talks) =
     subst (AllByRecursion IsApart) (sym talks.exchanged.all_entries)
-    (each-append IsApart (deeds_in served.session talks.exchanged.talk) _ (apart-talk catalogue served.session false talks.exchanged.talk talks.exchanged.leaves.reads)
+    (each-append IsApart (deeds_in served.session talks.exchanged.talk) _ (apart-talk catalogue keys served.session beginning talks.exchanged.talk talks.exchanged.leaves.reads)
     (apart-parting served.session _ talks.exchanged.parting))
-apart-visit catalogue gates tells served course entries (inr watches) =
+apart-visit catalogue gates keys tells served course entries (inr watches) =
     subst (AllByRecursion IsApart) (sym watches.noticed.all_entries) (apart-watched served.session watches.name watches.from watches.noticed.turns)
 
 -- ---- a history of which each connection agrees with its entries
@@ -155,7 +181,7 @@ module _ (catalogue : Catalogue) (gates : List Gate) (keys : Option (List KeyEnt
       by true is rest =
           let same : served.session ≡ session = grind (arith, nat_tests) in
           inr (subst (λ s. AllByRecursion IsApart (lane_entries s)) same
-          (apart-visit catalogue gates tells served course (lane_entries served.session) (each.0.1 heard)))
+          (apart-visit catalogue gates keys tells served course (lane_entries served.session) (each.0.1 heard)))
       by false is (inl absent) = inl ((λ same. let equal : served.session ≡ session = cc in absurd (grind (arith, nat_tests))), absent)
       by false is (inr apart) = inr apart
   of-works session (beat waited course ∷ works) each = elim (of-works session works each.1) [

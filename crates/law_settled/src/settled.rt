@@ -1,5 +1,6 @@
-ghost use Rattle.std.specs.Prelude.{◌≡◌, ◌⊎◌, ℕ, ◌<◌, Bool, false, List, Some, None, length, slice_get};
+ghost use Rattle.std.specs.Prelude.{◌≡◌, ◌⊎◌, ℕ, ◌<◌, Bool, false, List, Option, Some, None, length, slice_get};
 ghost use Rattle.std.specs.List.{AllByRecursion};
+ghost use Rattle.boss_keys.specs.declared.entry.Entry.{Entry as KeyEntry};
 ghost use Rattle.boss_model.specs.Catalogue.{Catalogue, actuators, driver_of};
 ghost use Rattle.boss_model.specs.DeviceCall.{DeviceCall};
 ghost use Rattle.boss_model.specs.Settle.{opened};
