@@ -31,14 +31,16 @@ filter-split : {X : Type 0} (test : X → Bool) (xs front back : List X) (x : X)
     (before : List X) × (behind : List X) × (xs ≡ before ++ x ∷ behind)
 filter-split test [] [] back x is = absurd cc
 filter-split test [] (y ∷ front) back x is = absurd cc
-filter-split {X} test (y ∷ xs) front back x is = by (test y) front is
+filter-split {X} test (y ∷ xs) front back x is = by (test y) front (λ rest same. filter-split test xs rest back x same) is
   where
-    by : (here : Bool) (front : List X) → cond here (y ∷ filter test xs) (filter test xs) ≡ front ++ x ∷ back → (before : List X) × (behind : List X) × (y ∷ xs ≡ before ++ x ∷ behind)
-    by true [] same = ([], xs, (let here : y ≡ x = cc in ap (λ first. first ∷ xs) here))
-    by true (z ∷ front) same =
-        let rest = filter-split test xs front back x (let those : filter test xs ≡ front ++ x ∷ back = cc in those) in
+    by : (here : Bool) (front : List X) →
+        ((rest : List X) → filter test xs ≡ rest ++ x ∷ back → (before : List X) × (behind : List X) × (xs ≡ before ++ x ∷ behind)) →
+        cond here (y ∷ filter test xs) (filter test xs) ≡ front ++ x ∷ back → (before : List X) × (behind : List X) × (y ∷ xs ≡ before ++ x ∷ behind)
+    by true [] among same = ([], xs, (let here : y ≡ x = cc in ap (λ first. first ∷ xs) here))
+    by true (z ∷ front) among same =
+        let rest = among front (let those : filter test xs ≡ front ++ x ∷ back = cc in those) in
         (y ∷ rest.0, rest.1, ap (λ others. y ∷ others) rest.2)
-    by false front same = let rest = filter-split test xs front back x same in (y ∷ rest.0, rest.1, ap (λ others. y ∷ others) rest.2)
+    by false front among same = let rest = among front same in (y ∷ rest.0, rest.1, ap (λ others. y ∷ others) rest.2)
 
 named-key : (shown : Shown) (name : List ℕ) → name_shown shown ≡ Some name → shown ≡ Key name
 named-key NoObject name is = absurd cc

@@ -1,4 +1,4 @@
-use Rattle.boss_sessions.proofs.Guarding.{keys-guard}
+use Rattle.boss_sessions.proofs.KeyLemmas.{keys-guard}
 use Rattle.boss_worker.proofs.KeyedLemmas.{works-shown}
 use Rattle.boss_worker.proofs.keyed.whoever_attaches_has_shown_its_key.Goals as goal
 
