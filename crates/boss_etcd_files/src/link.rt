@@ -7,11 +7,10 @@ use crate::reason::{Reason, name_fault};
 use arrayvec::ArrayVec;
 use boss_adapters::say_aside;
 use boss_outside::{Failed, Got, Link};
-use std::io::{self, ErrorKind, Eprint, Read, Write};
+use std::io::{self, Eprint, ErrorKind, Read, Write};
 use std::net::{Net, SocketAddr, TcpListener, TcpStream, ToSocketAddrs};
-use std::str;
-use std::thread;
 use std::time::{Clock, Duration, Instant};
+use std::{str, thread};
 
 /// How long an exchange may take, in milliseconds: connecting, sending and receiving together. Looking up a name is not cut short by it.
 const EXCHANGE: u64 = 5_000;
@@ -308,8 +307,7 @@ fn is_fresh(stream: &TcpStream) -> bool {
 }
 
 impl<R: Net<Listener = TcpListener, Stream = TcpStream> + Clock + Eprint + Copy> Link
-    for EtcdLink<R>
-{
+    for EtcdLink<R> {
     ghost tells = { ⊥ };
 
     ghost sent = { λ link. [] };

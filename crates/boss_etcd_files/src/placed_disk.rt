@@ -63,8 +63,7 @@ impl<R: Net<Listener = TcpListener, Stream = TcpStream> + Clock + Eprint + Copy>
 }
 
 impl<R: Net<Listener = TcpListener, Stream = TcpStream> + Clock + Eprint + Copy> Disk
-    for PlacedDisk<R>
-{
+    for PlacedDisk<R> {
     ghost tells = { ⊥ };
 
     ghost reads = { λ disk. [] };

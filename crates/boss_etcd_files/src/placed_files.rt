@@ -85,8 +85,7 @@ impl<R: Net<Listener = TcpListener, Stream = TcpStream> + Clock + Eprint + Copy>
 }
 
 impl<R: Net<Listener = TcpListener, Stream = TcpStream> + Clock + Eprint + Copy> Files
-    for PlacedFiles<R>
-{
+    for PlacedFiles<R> {
     type Store = PlacedDisk<R>;
 
     ghost tells = { ⊥ };

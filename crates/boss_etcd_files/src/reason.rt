@@ -1,8 +1,7 @@
 //! Why a member of etcd did not take what it was asked.
 
-use std::fmt;
 use std::io::{self, ErrorKind};
-use std::str;
+use std::{fmt, str};
 
 /// Why an exchange with a member was missed.
 #[derive(Clone, Copy, Debug, PartialEq, Eq)]
@@ -57,7 +56,9 @@ pub(crate) fn name_fault(reason: io::Error) -> io::Error {
 pub(crate) fn advice_for(content: &[u8]) -> Option<&'static str> {
     let text = str::from_utf8(content).ok()?;
     if text.contains("database space exceeded") {
-        return Some("etcd has no space left; compact its history, defragment it and disarm its alarm");
+        return Some(
+            "etcd has no space left; compact its history, defragment it and disarm its alarm",
+        );
     }
     if text.contains("has been compacted") {
         return Some("etcd compacted its pages away while they were read; start again");

@@ -61,12 +61,7 @@ impl<R: Net<Listener = TcpListener, Stream = TcpStream> + Clock + Eprint + Copy>
 /// Says what could not be done with a journal's file, since no member of etcd did it.
 pub(crate) fn say_unanswered<
     R: Net<Listener = TcpListener, Stream = TcpStream> + Clock + Eprint + Copy,
->(
-    rt: &R,
-    word: &str,
-    call: &str,
-    members: &Members<EtcdLink<R>>,
-) {
+>(rt: &R, word: &str, call: &str, members: &Members<EtcdLink<R>>) {
     match (advice_for(members.content()), members.link().reason()) {
         (Some(advice), _) => say_of(rt, word, call, advice),
         (None, Some(reason)) => say_of(
@@ -88,8 +83,7 @@ pub(crate) fn say_of<R: Eprint, D: Display + Drop>(rt: &R, word: &str, call: &st
 }
 
 impl<R: Net<Listener = TcpListener, Stream = TcpStream> + Clock + Eprint + Copy> Cluster
-    for ToldCluster<R>
-{
+    for ToldCluster<R> {
     ghost tells = { ⊥ };
 
     ghost contents = { λ cluster. [] };

@@ -18,7 +18,9 @@ use std::alloc::Global;
 #[derive(Debug, Drop)]
 pub enum Found {
     /// There was none at this revision.
-    Nothing { at: Items<u8> },
+    Nothing {
+        at: Items<u8>,
+    },
     /// It had this revision at that one, and there are so many bytes.
     Head {
         length: u64,

@@ -94,12 +94,7 @@ fn take_page(
 }
 
 /// Whether a key is that of the page behind so many bytes.
-fn is_next(
-    alloc: Global,
-    page: &Value<'_>,
-    name: &[u8],
-    length: usize,
-) -> Result<bool, NoMemory>
+fn is_next(alloc: Global, page: &Value<'_>, name: &[u8], length: usize) -> Result<bool, NoMemory>
     ensures { IfOk result (λ next. next ≡ true → IsNext name.now (value_view page.now) length) }
 {
     if length % PAGE != 0 {

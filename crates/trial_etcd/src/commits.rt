@@ -8,7 +8,8 @@ use std::process::Abort;
 use std::test::Fail;
 
 /// The request of the commit that is asked for here, by one that made none before.
-const ASKED: &str = "POST /v3/kv/txn HTTP/1.1\r\nHost: 127.0.0.1:2379\r\nContent-Length: 283\r\n\r\n{\"compare\":[{\"target\":\"MOD\",\"key\":\"cGxhbnQvYS9oZWFk\",\"mod_revision\":\"0\"}],\"success\":[{\"request_put\":{\"key\":\"cGxhbnQvYS9oZWFk\",\"value\":\"Ym9zc2QxIDAgMSA1\"}},{\"request_put\":{\"key\":\"cGxhbnQvYS9wLzAwMDAwMDAw\",\"value\":\"aGVsbG8=\"}}],\"failure\":[{\"request_range\":{\"key\":\"cGxhbnQvYS9oZWFk\"}}]}";
+const ASKED: &str =
+    "POST /v3/kv/txn HTTP/1.1\r\nHost: 127.0.0.1:2379\r\nContent-Length: 283\r\n\r\n{\"compare\":[{\"target\":\"MOD\",\"key\":\"cGxhbnQvYS9oZWFk\",\"mod_revision\":\"0\"}],\"success\":[{\"request_put\":{\"key\":\"cGxhbnQvYS9oZWFk\",\"value\":\"Ym9zc2QxIDAgMSA1\"}},{\"request_put\":{\"key\":\"cGxhbnQvYS9wLzAwMDAwMDAw\",\"value\":\"aGVsbG8=\"}}],\"failure\":[{\"request_range\":{\"key\":\"cGxhbnQvYS9oZWFk\"}}]}";
 
 /// What a member answers to a commit that it refuses, before the head's value, and behind it.
 const REFUSED: (&str, &str) = (

@@ -9,18 +9,24 @@ use std::test::Fail;
 const NONE: &str = "{\"header\":{\"revision\":\"1\"}}";
 
 /// The head of six bytes; of another program.
-const HEAD: &str = "{\"header\":{\"revision\":\"5\"},\"kvs\":[{\"key\":\"cGxhbnQvYS9oZWFk\",\"create_revision\":\"2\",\"mod_revision\":\"3\",\"version\":\"2\",\"value\":\"Ym9zc2QxIDAgMiA2\"}],\"count\":\"1\"}";
+const HEAD: &str =
+    "{\"header\":{\"revision\":\"5\"},\"kvs\":[{\"key\":\"cGxhbnQvYS9oZWFk\",\"create_revision\":\"2\",\"mod_revision\":\"3\",\"version\":\"2\",\"value\":\"Ym9zc2QxIDAgMiA2\"}],\"count\":\"1\"}";
 
-const FOREIGN: &str = "{\"header\":{\"revision\":\"5\"},\"kvs\":[{\"key\":\"cGxhbnQvYS9oZWFk\",\"create_revision\":\"2\",\"mod_revision\":\"3\",\"version\":\"2\",\"value\":\"dHdv\"}],\"count\":\"1\"}";
+const FOREIGN: &str =
+    "{\"header\":{\"revision\":\"5\"},\"kvs\":[{\"key\":\"cGxhbnQvYS9oZWFk\",\"create_revision\":\"2\",\"mod_revision\":\"3\",\"version\":\"2\",\"value\":\"dHdv\"}],\"count\":\"1\"}";
 
 /// The page of six bytes; the second one without the first; one that is empty; five bytes where there are six.
-const PAGE: &str = "{\"header\":{\"revision\":\"5\"},\"kvs\":[{\"key\":\"cGxhbnQvYS9wLzAwMDAwMDAw\",\"create_revision\":\"2\",\"mod_revision\":\"3\",\"version\":\"2\",\"value\":\"aGVsbG8h\"}],\"count\":\"1\"}";
+const PAGE: &str =
+    "{\"header\":{\"revision\":\"5\"},\"kvs\":[{\"key\":\"cGxhbnQvYS9wLzAwMDAwMDAw\",\"create_revision\":\"2\",\"mod_revision\":\"3\",\"version\":\"2\",\"value\":\"aGVsbG8h\"}],\"count\":\"1\"}";
 
-const SECOND: &str = "{\"header\":{\"revision\":\"5\"},\"kvs\":[{\"key\":\"cGxhbnQvYS9wLzAwMDAwMDAx\",\"mod_revision\":\"3\",\"value\":\"aGVsbG8h\"}],\"count\":\"1\"}";
+const SECOND: &str =
+    "{\"header\":{\"revision\":\"5\"},\"kvs\":[{\"key\":\"cGxhbnQvYS9wLzAwMDAwMDAx\",\"mod_revision\":\"3\",\"value\":\"aGVsbG8h\"}],\"count\":\"1\"}";
 
-const EMPTY: &str = "{\"header\":{\"revision\":\"5\"},\"kvs\":[{\"key\":\"cGxhbnQvYS9wLzAwMDAwMDAw\",\"mod_revision\":\"3\"}],\"count\":\"1\"}";
+const EMPTY: &str =
+    "{\"header\":{\"revision\":\"5\"},\"kvs\":[{\"key\":\"cGxhbnQvYS9wLzAwMDAwMDAw\",\"mod_revision\":\"3\"}],\"count\":\"1\"}";
 
-const SHORT: &str = "{\"header\":{\"revision\":\"5\"},\"kvs\":[{\"key\":\"cGxhbnQvYS9wLzAwMDAwMDAw\",\"mod_revision\":\"3\",\"value\":\"aGVsbG8=\"}],\"count\":\"1\"}";
+const SHORT: &str =
+    "{\"header\":{\"revision\":\"5\"},\"kvs\":[{\"key\":\"cGxhbnQvYS9wLzAwMDAwMDAw\",\"mod_revision\":\"3\",\"value\":\"aGVsbG8=\"}],\"count\":\"1\"}";
 
 /// What is opened where the head and the pages are answered so: the bytes, with the head's revision.
 fn opened(

@@ -7,7 +7,8 @@ use std::alloc::Global;
 use std::process::Abort;
 
 /// What a member answered to a commit that took the journal over.
-pub const TAKEN: &str = "HTTP/1.1 200 OK\r\nAccess-Control-Allow-Headers: accept, content-type, authorization\r\nAccess-Control-Allow-Methods: POST, GET, OPTIONS, PUT, DELETE\r\nAccess-Control-Allow-Origin: *\r\nContent-Type: application/json\r\nGrpc-Metadata-Content-Type: application/grpc\r\nDate: Tue, 01 Dec 2026 22:36:51 GMT\r\nContent-Length: 234\r\n\r\n{\"header\":{\"cluster_id\":\"8280492943435028862\",\"member_id\":\"10903438849754818364\",\"revision\":\"2\",\"raft_term\":\"2\"},\"succeeded\":true,\"responses\":[{\"response_put\":{\"header\":{\"revision\":\"2\"}}},{\"response_put\":{\"header\":{\"revision\":\"2\"}}}]}";
+pub const TAKEN: &str =
+    "HTTP/1.1 200 OK\r\nAccess-Control-Allow-Headers: accept, content-type, authorization\r\nAccess-Control-Allow-Methods: POST, GET, OPTIONS, PUT, DELETE\r\nAccess-Control-Allow-Origin: *\r\nContent-Type: application/json\r\nGrpc-Metadata-Content-Type: application/grpc\r\nDate: Tue, 01 Dec 2026 22:36:51 GMT\r\nContent-Length: 234\r\n\r\n{\"header\":{\"cluster_id\":\"8280492943435028862\",\"member_id\":\"10903438849754818364\",\"revision\":\"2\",\"raft_term\":\"2\"},\"succeeded\":true,\"responses\":[{\"response_put\":{\"header\":{\"revision\":\"2\"}}},{\"response_put\":{\"header\":{\"revision\":\"2\"}}}]}";
 
 /// A response with status 200 and this body.
 pub fn response(rt: &impl Abort, alloc: Global, body: &str) -> Items<u8> {

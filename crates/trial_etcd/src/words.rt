@@ -22,8 +22,14 @@ fn place_of(rt: &impl Abort, alloc: Global, word: &str) -> Option<String> {
 fn words_mean_places(rt: HostRuntime) -> Result<(), Fail> {
     let rows = [
         ("etcd:127.0.0.1:2379/plant", "127.0.0.1:2379 plant/a"),
-        ("etcd:a:1,[::1]:65535/A.b-c_9.b", "a:1 [::1]:65535 A.b-c_9/b"),
-        ("etcd:a:1,b:2,c:3,d:4,e:5,f:6,g:7,h:8,i:9/x", "a:1 b:2 c:3 d:4 e:5 f:6 g:7 h:8 i:9 x/a"),
+        (
+            "etcd:a:1,[::1]:65535/A.b-c_9.b",
+            "a:1 [::1]:65535 A.b-c_9/b",
+        ),
+        (
+            "etcd:a:1,b:2,c:3,d:4,e:5,f:6,g:7,h:8,i:9/x",
+            "a:1 b:2 c:3 d:4 e:5 f:6 g:7 h:8 i:9 x/a",
+        ),
     ];
     for (word, place) in rows {
         let found = place_of(&rt, rt.alloc(), word).expect(&rt, word);
