@@ -1,2 +1,2 @@
-pub mod Pages
+pub mod InOrder
 pub mod Values

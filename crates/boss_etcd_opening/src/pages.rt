@@ -51,7 +51,7 @@ fn take_pages(
 }
 
 /// Puts these pages behind these bytes.
-#[tactic(auto, using(crate::proofs::Pages::pages_on))]
+#[tactic(auto, using(crate::proofs::InOrder::pages_on))]
 fn take_all(
     alloc: Global,
     pages: &[Value<'_>],
@@ -72,7 +72,7 @@ fn take_all(
 }
 
 /// Puts a page behind these bytes, where it is the next one.
-#[tactic(auto, using(crate::proofs::Pages::next_page))]
+#[tactic(auto, using(crate::proofs::InOrder::next_page))]
 fn take_page(
     alloc: Global,
     page: &Value<'_>,
