@@ -33,7 +33,7 @@ write field fan 1 ok
 {"ok":"attached","process":"a","next":1}
 {"ok":"accepted","txn":1,"until":60600}
 {"ok":"read","point":"ahu1.damper","value":45000,"from":"lease","priority":8,"txn":1,"mark":"settled"}
-{"ok":"read","point":"ahu1.damper","value":20000,"from":"default","mark":"pending"}
+{"ok":"read","point":"ahu1.damper","value":20000,"from":"default","mark":"pending","took":45000,"since":600}
 write field ahu1.damper 20000 ok
 status 0
 == no further than the journal's own moment
@@ -73,14 +73,14 @@ write field fan 1 ok
 {"ok":"attached","process":"a","next":1}
 {"ok":"accepted","txn":1,"until":2000}
 write field ahu1.damper 45000 ok
-{"ok":"read","point":"ahu1.damper","value":30000,"from":"reversion","txn":1,"mark":"pending"}
+{"ok":"read","point":"ahu1.damper","value":30000,"from":"pending","priority":8,"txn":1,"mark":"pending","took":45000,"since":1000}
 write field ahu1.damper 30000 ok
 status 0
 $ shift three j 2001
 shift too-far 2000
 status 15
 $ shift three j 2000
-shifted events 4 now 1000 leases 0 pending 1
+shifted events 4 now 0 leases 0 pending 1
 status 0
 $ script three j
 > {"at":4999,"op":"read","point":"ahu1.damper"}
@@ -88,8 +88,8 @@ $ script three j
 write field ahu1.damper 30000 ok
 write field lamp 0 ok
 write field fan 1 ok
-{"ok":"read","point":"ahu1.damper","value":30000,"from":"reversion","txn":1,"mark":"settled"}
-{"ok":"read","point":"ahu1.damper","value":20000,"from":"default","mark":"pending"}
+{"ok":"read","point":"ahu1.damper","value":30000,"from":"pending","priority":8,"txn":1,"mark":"settled"}
+{"ok":"read","point":"ahu1.damper","value":20000,"from":"default","mark":"pending","took":30000,"since":0}
 write field ahu1.damper 20000 ok
 status 0
 == a standby that had all events is sent the state
@@ -102,7 +102,7 @@ $ shift three j2 400
 shifted events 3 now 600 leases 1 pending 0
 status 0
 $ feed three j2 2
-state 3 104
+state 3 96
 part 0000000000000258000000000000000200010161000000000000000000000000000001000000000000000100000001000000000800000000000001000000000000000100000000000008000000000000afc8000000000000ecb8000000000000
 status 0
 == a journal that is new stays new
