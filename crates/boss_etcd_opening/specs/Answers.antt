@@ -1,14 +1,12 @@
 -- Source: etcd 3.4, api: RangeResponse, ResponseHeader, KeyValue, as its JSON writes them.
 -- What the answers to the reads of an opening say.
 use Rattle.std.specs.Prelude.{◌≡◌, ℕ, ◌/◌, ◌%◌, ◌<◌, ◌≤◌, true, List, [], ◌∷◌, ◌++◌, length, codes, Option, Some, None, option_and_then}
-use Rattle.base64.specs.Engines.{standard}
-use Rattle.base64.specs.GeneralPurpose.{encode_of}
 use Rattle.json.specs.Value.{items_of}
 use Rattle.json.specs.Find.{get, at as nth, as_str}
 use Rattle.json.specs.Json.{Json, document, array}
 use Rattle.boss_etcd.specs.Requests.{page_key}
 use Rattle.boss_etcd.specs.Says.{is_revision, revision_of}
-use Rattle.boss_etcd_opening.specs.Values.{TellsIn}
+use Rattle.boss_etcd_opening.specs.Values.{base64_of, TellsIn}
 use Rattle.boss_etcd_opening.specs.declared.found.Found.{Found}
 use Rattle.boss_etcd_opening.specs.declared.found.Found.TheVariants.{Nothing, Head, Foreign, Unclear}
 
@@ -56,9 +54,9 @@ SaysHead body Unclear = Unit {0}
 -- a key with its value, which is the page behind these bytes: its number is that of the full pages before it
 pub record IsPage (name : List ℕ) (json : Json) (before after : List ℕ) : Type 0 where
   pub full : length before % 1024 ≡ 0
-  pub key : text_in (codes "key") json ≡ Some (encode_of standard (page_key name (length before / 1024)))
+  pub key : text_in (codes "key") json ≡ Some (base64_of (page_key name (length before / 1024)))
   pub page : List ℕ
-  pub value : text_in (codes "value") json ≡ Some (encode_of standard page)
+  pub value : text_in (codes "value") json ≡ Some (base64_of page)
   pub some : 0 < length page
   pub most : length page ≤ 1024
   pub bytes : after ≡ before ++ page
@@ -66,11 +64,11 @@ pub record IsPage (name : List ℕ) (json : Json) (before after : List ℕ) : Ty
 -- the key of a page behind so many bytes
 pub record IsNext (name : List ℕ) (json : Json) (size : ℕ) : Type 0 where
   pub full : size % 1024 ≡ 0
-  pub key : text_in (codes "key") json ≡ Some (encode_of standard (page_key name (size / 1024)))
+  pub key : text_in (codes "key") json ≡ Some (base64_of (page_key name (size / 1024)))
 
 -- the bytes of a page
 pub record HasBytes (json : Json) (page : List ℕ) : Type 0 where
-  pub value : text_in (codes "value") json ≡ Some (encode_of standard page)
+  pub value : text_in (codes "value") json ≡ Some (base64_of page)
   pub some : 0 < length page
   pub most : length page ≤ 1024
 

@@ -7,9 +7,8 @@ ghost use Rattle.boss_etcd.specs.Says.{is_revision, revision_of};
 ghost use Rattle.boss_etcd_opening.specs.Answers.{first_in, text_in, SaysHead};
 ghost use Rattle.boss_etcd_opening.specs.Values.{TellsIn};
 
+use crate::encoded::decoded;
 use crate::value::length_of;
-use base64::DecodeAllocError;
-use base64::engine::general_purpose::STANDARD;
 use boss_model::{Items, NoMemory};
 use json::{Error, Scratch, Value};
 use std::alloc::Global;
@@ -141,10 +140,9 @@ fn numbered<'a>(text: Option<&'a str>) -> Option<&'a str>
 fn length_in(alloc: Global, text: &str) -> Result<Option<u64>, NoMemory>
     ensures { IfOk result (λ length. IfSome length (TellsIn text.now)) }
 {
-    match STANDARD.decode(alloc, text.as_bytes()) {
-        Ok(value) => Ok(length_of(value.as_slice())),
-        Err(DecodeAllocError::OutOfMemory) => Err(NoMemory),
-        Err(DecodeAllocError::DecodeError(_)) => Ok(None),
+    match decoded(alloc, text)? {
+        Some(value) => Ok(length_of(value.as_slice())),
+        None => Ok(None),
     }
 }
 

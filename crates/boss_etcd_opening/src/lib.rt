@@ -1,6 +1,7 @@
 //! What etcd keeps of a disk, as whoever opens it finds it: the head of a name and its pages, as they were at one moment. Nothing is put.
 #![tactic(auto)]
 
+mod encoded;
 mod found;
 mod opening;
 mod pages;

@@ -5,9 +5,8 @@ ghost use Rattle.json.specs.Value.{value_view};
 ghost use Rattle.boss_etcd.specs.Requests.{page_key};
 ghost use Rattle.boss_etcd_opening.specs.Answers.{ArePages, HasBytes, HasPages, IsNext, IsPage, KeysOf};
 
+use crate::encoded::{decoded, encoded};
 use crate::found::text_in;
-use base64::DecodeAllocError;
-use base64::engine::general_purpose::STANDARD;
 use boss_model::NoMemory;
 use json::{Error, Scratch, Value};
 use std::alloc::Global;
@@ -94,6 +93,7 @@ fn take_page(
 }
 
 /// Whether a key is that of the page behind so many bytes.
+#[tactic(auto, using(crate::proofs::Keys::is_wanted))]
 fn is_next(alloc: Global, page: &Value<'_>, name: &[u8], length: usize) -> Result<bool, NoMemory>
     ensures { IfOk result (λ next. next ≡ true → IsNext name.now (value_view page.now) length) }
 {
@@ -104,7 +104,7 @@ fn is_next(alloc: Global, page: &Value<'_>, name: &[u8], length: usize) -> Resul
         return Ok(false);
     };
     let key = key_of(alloc, name, number)?;
-    let wanted = STANDARD.encode(alloc, key.as_slice())?;
+    let wanted = encoded(alloc, key.as_slice())?;
     match text_in(page, "key") {
         Some(text) => Ok(text == wanted.as_str()),
         None => Ok(false),
@@ -132,10 +132,8 @@ fn bytes_in(alloc: Global, page: &Value<'_>) -> Result<Option<Vec<u8>>, NoMemory
     let Some(text) = text_in(page, "value") else {
         return Ok(None);
     };
-    match STANDARD.decode(alloc, text.as_bytes()) {
-        Ok(bytes) if !bytes.is_empty() && bytes.len() <= PAGE => Ok(Some(bytes)),
-        Ok(_) => Ok(None),
-        Err(DecodeAllocError::OutOfMemory) => Err(NoMemory),
-        Err(DecodeAllocError::DecodeError(_)) => Ok(None),
+    match decoded(alloc, text)? {
+        Some(bytes) if !bytes.is_empty() && bytes.len() <= PAGE => Ok(Some(bytes)),
+        Some(_) | None => Ok(None),
     }
 }
