@@ -29,7 +29,7 @@ LACKING = f"{PYTHON} lacks {' or '.join(OF_CONSOLE)}"
 # Tests that start no program of this repository; they run with a BOSSD that is none, so that one which wants it fails.
 TESTS = {
     CLIENT: ["test_bacnet.Answers", "test_bacnet.Coding", "test_bossd.Addresses", "test_bossd.Checked", "test_bossd.Denying",
-             "test_bossd.Gathering", "test_bossd.Kept", "test_bossd.Later", "test_bossd.Units",
+             "test_bossd.Gathering", "test_bossd.Kept", "test_bossd.Later", "test_bossd.SeveralAddresses", "test_bossd.Units",
              "test_ctl.Denied", "test_ctl.Finding", "test_ctl.Guarded", "test_ctl.Journals", "test_ctl.Linting", "test_ctl.Served",
              "test_ctl.Showing", "test_follow", "test_keys", "test_session", "test_tls"],
     CONSOLE: ["tests.test_history", "tests.test_journal", "tests.test_keys", "tests.test_knowing.Before", "tests.test_knowing.Told", "tests.test_parts",

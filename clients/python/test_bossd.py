@@ -2,6 +2,7 @@
 
 BOSSD in the environment may name another program to start."""
 
+import asyncio
 import copy
 import hashlib
 import itertools
@@ -16,6 +17,7 @@ import time
 import unittest
 
 import bossd
+import bossd.aio
 
 sys.path.append(os.path.join(os.path.dirname(os.path.abspath(__file__)), "..", ".."))
 from outside import program as common
@@ -414,6 +416,32 @@ class Addresses(unittest.TestCase):
         for make in (lambda address: bossd.Client(address, patience=1), lambda address: next(bossd.watch(address, "a", patience=1))):
             with self.assertRaises(ConnectionError):
                 make("no-such-host.invalid:7000")
+
+
+class SeveralAddresses(unittest.TestCase):
+    """Both forms of the client, before stands-in of which one serves."""
+
+    def test_the_one_that_serves_is_found_and_followed(self):
+        answer = denying(0)
+        stopped = Answering(lambda asked: {"error": "stopped"})
+        silent = socket.create_server(("127.0.0.1", 0))
+        serving = Answering(answer)
+        with socket.create_server(("127.0.0.1", 0)) as taken:
+            gone = f"127.0.0.1:{taken.getsockname()[1]}"
+        self.addCleanup(silent.close)
+        self.addCleanup(stopped.listener.close)
+        self.addCleanup(serving.listener.close)
+        addresses = [gone, f"127.0.0.1:{silent.getsockname()[1]}", stopped.address, serving.address]
+        with self.assertLogs("bossd", "WARNING"), bossd.Client(addresses, "a", patience=30) as client:
+            self.assertEqual(client.ask({"op": "read", "point": "lamp"})["ok"], "read")
+            self.assertEqual(client.address, serving.address)
+
+        async def the_same():
+            async with bossd.aio.connect(",".join(addresses), "a", 30) as client:
+                return (await client.ask({"op": "read", "point": "lamp"}))["ok"], client.address
+
+        with self.assertLogs("bossd", "WARNING"):
+            self.assertEqual(asyncio.run(the_same()), ("read", serving.address))
 
 
 def busy(asked):

@@ -4,10 +4,12 @@ import json
 import unittest
 
 import bossd
+from bossd._addresses import LOOK, Addresses, addresses_of, is_answer
 from bossd._protocol import PARTING, PAUSE
-from bossd._session import LONGEST_ANSWER, Course, Drop, Keeping, Pause, Receive, Send, Session, Wait, Watching
+from bossd._session import LONGEST_ANSWER, Connect, Course, Drop, Keeping, Pause, Receive, Send, Serves, Session, Wait, Watching
 
 ADDRESS = "127.0.0.1:7000"
+HERE, THERE, YONDER = "here:700", "there:700", "yonder:700"
 REFUSED = ConnectionRefusedError(111, "Connection refused")
 # What a connection is told that no worker of the server is free for, as docs/PROTOCOL.md has it.
 BUSY = b'{"error":"busy"}\n'
@@ -30,9 +32,16 @@ class World:
 
     def __init__(self, *words):
         self.words, self.done, self.told, self.now = list(words), [], [], 0.0
+        # To which addresses it went, where it looked whether a server answers, and where one does.
+        self.went, self.looked, self.serving = [], [], []
 
     def do(self, step):
         self.done.append(type(step).__name__)
+        if isinstance(step, Serves):
+            self.looked.append(step.address)
+            return step.address in self.serving
+        if isinstance(step, Connect):
+            self.went.append(self.machine.address)
         if isinstance(step, (Pause, Wait)):
             self.now += step.seconds
             return False
@@ -55,12 +64,12 @@ class World:
             return word.data
         return word if isinstance(word, bytes) else json.dumps(word).encode() + b"\n"
 
-    def session(self, patience=60.0, at_once=False):
-        self.machine = Session(ADDRESS, patience, at_once)
+    def session(self, patience=60.0, at_once=False, address=ADDRESS):
+        self.machine = Session(address, patience, at_once)
         return self.machine
 
-    def watching(self, first=1, patience=60.0):
-        self.machine = Watching(ADDRESS, "a", first, patience)
+    def watching(self, first=1, patience=60.0, address=ADDRESS):
+        self.machine = Watching(address, "a", first, patience)
         return self.machine
 
     def run(self, steps, machine=None, do=None):
@@ -73,6 +82,95 @@ class World:
             else:
                 course.came(came, self.now)
         return course.result
+
+
+class Several(unittest.TestCase):
+    """A server that may be at several addresses."""
+
+    def test_how_they_are_given(self):
+        for given in ("here:700,there:700,here:700", "here:700, there:700", ["here:700", "there:700"], ("here:700", "there:700")):
+            self.assertEqual(addresses_of(given), (HERE, THERE))
+        for given in ("", (), "here:700,", ["here:700", "there"], "here:700;there:700"):
+            with self.subTest(given), self.assertRaises(ValueError):
+                Session(given, 1.0)
+
+    def test_a_round_is_tried_at_once_and_then_a_moment_passes(self):
+        world = World(REFUSED, REFUSED, REFUSED, REFUSED, None)
+        with self.assertLogs("bossd", "WARNING") as logged:
+            world.run(world.session(address=(HERE, THERE, YONDER))._opening(None))
+        self.assertEqual(world.went, [HERE, THERE, YONDER, HERE, THERE])
+        self.assertEqual((world.done.count("Pause"), world.now), (1, PAUSE))
+        self.assertIn("nobody listens at here:700; trying there:700, yonder:700 too for 60 seconds", logged.output[0])
+        self.assertIn("there:700 answers", logged.output[1])
+        self.assertEqual(world.machine.address, THERE)
+
+    def test_a_request_goes_under_its_number_to_the_one_that_serves_next(self):
+        attached = {"ok": "attached", "process": "a", "next": 4}
+        world = World(None, attached, {"error": "unknown-txn"}, {"error": "stopped"}, REFUSED, None, attached,
+                      {"ok": "accepted", "txn": 1, "until": 5})
+        session = world.session(address=[HERE, THERE, YONDER])
+        world.run(session._opening("a"))
+        with self.assertLogs("bossd", "WARNING"):
+            self.assertEqual(world.run(session._making({"op": "cancel", "txn": 7}))["txn"], 1)
+        self.assertEqual((world.went, session.address), ([HERE, THERE, YONDER], YONDER))
+        self.assertEqual([(asked["op"], asked.get("seq")) for asked in world.told],
+                         [("attach", None), ("cancel", 1), ("cancel", 1), ("attach", None), ("cancel", 1)])
+
+    def test_a_slow_server_is_not_left_while_no_other_one_answers(self):
+        world = World(None, Silence(), Silence(), Silence(), {"ok": "version"})
+        session = world.session(address=(HERE, THERE, YONDER))
+        world.run(session._asking({"op": "version"}))
+        self.assertEqual((world.went, world.looked), ([HERE], [THERE, YONDER] * 3))
+        self.assertEqual(world.now, 3 * LOOK)
+
+    def test_a_silent_one_is_left_for_one_that_answers(self):
+        world = World(None, Silence(), None, {"ok": "version"})
+        world.serving = [YONDER]
+        session = world.session(address=(HERE, THERE, YONDER))
+        with self.assertLogs("bossd", "WARNING") as logged:
+            world.run(session._asking({"op": "version"}))
+        self.assertEqual((world.went, world.looked, world.now), ([HERE, YONDER], [THERE, YONDER], LOOK))
+        self.assertIn("here:700 is silent, and yonder:700 answers", logged.output[0])
+
+    def test_patience_ends_and_a_server_that_nobody_started_is_not_waited_for(self):
+        for at_once, least in ((False, 3.0 - 2 * PAUSE), (True, 0.0)):
+            world = World(*[REFUSED] * 100)
+            with self.subTest(at_once), self.assertLogs("bossd", "WARNING"), self.assertRaises(bossd.Unanswered):
+                world.run(world.session(3.0, at_once, (HERE, THERE))._opening(None))
+                self.fail()
+            self.assertTrue(least <= world.now <= 3.0)
+        self.assertEqual(world.went, [HERE, THERE])
+
+    def test_a_host_that_there_is_none_of_keeps_nobody_from_the_others(self):
+        unknown = bossd.UnknownHost("there is no such host")
+        world = World(unknown, None)
+        with self.assertLogs("bossd", "WARNING"):
+            world.run(world.session(address=(HERE, THERE))._opening(None))
+        world = World(unknown, unknown)
+        with self.assertLogs("bossd", "WARNING"), self.assertRaises(bossd.UnknownHost):
+            world.run(world.session(address=(HERE, THERE))._opening(None))
+
+    def test_a_watch_goes_where_its_notices_come(self):
+        world = World(None, Silence(), REFUSED, None, {"n": 1, "at": 5, "txn": 1, "kind": "done"})
+        world.serving = [YONDER]
+        watching = world.watching(address=(HERE, THERE, YONDER))
+        with self.assertLogs("bossd", "WARNING"):
+            self.assertEqual(world.run(watching._following()).n, 1)
+        self.assertEqual(world.went, [HERE, YONDER, HERE])
+
+    def test_what_is_an_answer(self):
+        for line, holds in ((b'{"ok":"version"}\n', True), (b'{"error":"unknown-op"}\n', True), (BUSY, False), (b"", False), (b'{"ok"', False)):
+            self.assertEqual(is_answer(line), holds)
+
+    def test_a_round_ends_once_each_has_failed(self):
+        addresses = Addresses([HERE, THERE])
+        addresses.failed(REFUSED)
+        self.assertEqual((addresses.go_on(), addresses.current), (True, THERE))
+        addresses.answered()
+        addresses.failed(REFUSED)
+        self.assertEqual((addresses.go_on(), addresses.current), (True, HERE))
+        addresses.failed(REFUSED)
+        self.assertEqual((addresses.go_on(), addresses.current), (False, THERE))
 
 
 class Over:

@@ -76,7 +76,8 @@ def address(text: str) -> Tuple[str, int]:
 
 def checked(given: argparse.Namespace) -> None:
     """Failure where a word is out of its range."""
-    address(given.server)
+    for one in given.server.split(","):
+        address(one.strip())
     if not LEAST_EVERY <= given.every <= MOST_EVERY:
         raise Failure(f"--every is to be {LEAST_EVERY} to {MOST_EVERY:.0f} seconds")
     if not 1 <= given.streams <= MOST_STREAMS:

@@ -9,7 +9,7 @@ import time
 from typing import List, Optional, Tuple
 
 import bossd
-from bossd._protocol import host_and_port
+from bossd._addresses import addresses_of
 from bossd.ctl._key import taken as taken_key
 from bossd.ctl._lint import Finding
 from bossd.ctl._served import NoAnswer, asking, process_in
@@ -118,7 +118,7 @@ def main(arguments: Optional[List[str]] = None) -> None:
     given = words().parse_args(arguments)
     try:
         if given.server is not None or not given.check and not given.show:
-            host_and_port(given.server or "")
+            addresses_of(given.server or "")
     except ValueError as error:
         say(str(error) if given.server else "SERVER is missing: the server's address, as 127.0.0.1:7000")
         sys.exit(USAGE)

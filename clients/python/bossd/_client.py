@@ -8,13 +8,14 @@ import time
 from types import TracebackType
 from typing import Any, Callable, Iterable, Iterator, List, Mapping, Optional, Type, TypeVar, Union
 
+from ._addresses import QUESTION, Given, is_answer
 from ._keys import Key
 from ._protocol import (
     PARTING, Accepted, Answer, Notice, Notices, Points, Reading, Refused, Request, Slots, Status, Version, host_and_port, no_such_host,
     prepare,
 )
 from ._session import (
-    PIECE, Ask, Connect, Course, Drop, Keeping, Machine, Pause, Receive, Send, Session, Speaking, Step, Steps, Wait, Watching, lines_of,
+    PIECE, Ask, Connect, Course, Drop, Keeping, Machine, Pause, Receive, Send, Serves, Session, Speaking, Step, Steps, Wait, Watching, lines_of,
 )
 
 T = TypeVar("T")
@@ -72,7 +73,17 @@ def shut(link: socket.socket, how: int) -> None:
     socket.socket.shutdown(link, how)
 
 
-def connect(address: str, process: Optional[str] = None, patience: float = 60.0, *, at_once: bool = False,
+def serves(address: str, seconds: float, tls: Optional[ssl.SSLContext]) -> bool:
+    """Whether a server answers at the address, in about so many seconds."""
+    try:
+        with connected(address, seconds, tls) as link:
+            link.sendall(QUESTION)
+            return is_answer(link.recv(PIECE))
+    except OSError:
+        return False
+
+
+def connect(address: Given, process: Optional[str] = None, patience: float = 60.0, *, at_once: bool = False,
             tls: Optional[ssl.SSLContext] = None, key: Optional[Key] = None, as_: Optional[str] = None) -> "Client":
     """A Client, as its class makes it."""
     return Client(address, process, patience, at_once=at_once, tls=tls, key=key, as_=as_)
@@ -94,6 +105,8 @@ class Connection(Speaking):
             return self._receive(step.seconds)
         elif isinstance(step, Drop):
             self._drop()
+        elif isinstance(step, Serves):
+            return serves(step.address, step.seconds, self._tls)
         else:
             assert isinstance(step, Pause)
             self._pause(step.seconds)
@@ -122,7 +135,8 @@ class Connection(Speaking):
 class Client(Session, Connection):
     """A connection for one control process, or, without one, for questions alone. It may be used by several threads.
 
-    `address` is "host:port". `patience` is for how many seconds a request is asked again, over new connections, until it is answered;
+    `address` is "host:port"; several of them, in a sequence or with commas between, where the server may be at any: the client goes to the
+    one that serves, and asks there again what another one did not answer. `patience` is for how many seconds a request is asked again, over new connections, until it is answered;
     a server whose workers are all busy answers nothing until one is free, or closes the connection after ten seconds, so it should be
     long: Busy is raised where it was over before. With `at_once` a server that nobody has started is not waited for. With `tls`, as
     `tls_context` makes one, the connection has TLS in it, for what stands before the server then; a host whose certificate is not trusted
@@ -132,7 +146,7 @@ class Client(Session, Connection):
     `key` is for a server that knows processes by keys: the key's text, or what gives it, as `key_in` makes it of a file. The first line of
     each connection shows it. It is the process's own; one that only asks names whose it is by `as_`. A server without keys passes over both."""
 
-    def __init__(self, address: str, process: Optional[str] = None, patience: float = 60.0, *, at_once: bool = False,
+    def __init__(self, address: Given, process: Optional[str] = None, patience: float = 60.0, *, at_once: bool = False,
                  tls: Optional[ssl.SSLContext] = None, key: Optional[Key] = None, as_: Optional[str] = None) -> None:
         """Connects, and attaches as the process if it is given. ValueError for an address or a key that is none, Malformed for a name in
         `as_`, UnknownHost, Unanswered; or as `attach`."""
@@ -296,7 +310,7 @@ class Held(Keeping):
         return self._client.ask(step.request)
 
 
-def watch(address: str, process: str, first: int = 1, patience: float = 60.0, *, tls: Optional[ssl.SSLContext] = None,
+def watch(address: Given, process: str, first: int = 1, patience: float = 60.0, *, tls: Optional[ssl.SSLContext] = None,
           key: Optional[Key] = None, as_: Optional[str] = None) -> "Watch":
     """Gives the Notices of a process one after another as they come, from the number `first` on, each once and in order: a Watch."""
     return Watch(address, process, first, patience, tls=tls, key=key, as_=as_)
@@ -312,7 +326,7 @@ class Watch(Watching, Connection, Iterator[Notice]):
     itself. WrongKey where the server does not take the key. `tls` and `key` are as those of a Client; the key is the watched process's
     own, or that of the process `as_`. `close` may be called from another thread, and whoever waits for a notice then waits no longer."""
 
-    def __init__(self, address: str, process: str, first: int = 1, patience: float = 60.0, *,
+    def __init__(self, address: Given, process: str, first: int = 1, patience: float = 60.0, *,
                  tls: Optional[ssl.SSLContext] = None, key: Optional[Key] = None, as_: Optional[str] = None) -> None:
         super().__init__(address, process, first, patience, key, as_)
         self._hold_with(tls)

@@ -12,11 +12,12 @@ from typing import (
     TypeVar, Union,
 )
 
+from ._addresses import LOOK, REACH, Addresses, Elsewhere, Given
 from ._keys import Key, shown_in, source_of
 from ._protocol import (
     LONGEST_LINE, PARTING, PAUSE, PULSE, SILENCE, WRONG_KEY, Accepted, Already, Answer, Busy, Denied, Gathering, NoMemory, Notice, Notices,
     Over, Points, Reading, Refused, Request, Slots, Stale, Status, Stopped, Taken, TurnedAway, Unanswered, UnknownHost, UnknownTransaction,
-    Version, WrongKey, a_name, answer_of, heard, host_and_port, is_wrong_key, line_of, notice_of, notices_from, notices_of, reading_of,
+    Version, WrongKey, a_name, answer_of, heard, is_wrong_key, line_of, notice_of, notices_from, notices_of, reading_of,
     refusal_of, renewal, slots_of, status_of, submission, version_of, windows,
 )
 
@@ -55,6 +56,12 @@ class Receive(NamedTuple):
     seconds: float
 
 
+class Serves(NamedTuple):
+    """Give whether a server answers at this address, over a connection of its own, within so many seconds."""
+    address: str
+    seconds: float
+
+
 class Pause(NamedTuple):
     """Let so many seconds pass."""
     seconds: float
@@ -70,7 +77,7 @@ class Ask(NamedTuple):
     request: Request
 
 
-Step = Union[Connect, Drop, Send, Receive, Pause, Wait, Ask]
+Step = Union[Connect, Drop, Send, Receive, Serves, Pause, Wait, Ask]
 Steps = Generator[Step, Any, T]
 
 
@@ -111,12 +118,12 @@ class Speaking(Machine):
     """One side of a connection: what came of it, and what is known of it. The first line of each connection shows the key, if there is
     one: of the process `as_`, or else of the one that the line names."""
 
-    def __init__(self, address: str, patience: float, key: Optional[Key] = None, as_: Optional[str] = None) -> None:
+    def __init__(self, address: Given, patience: float, key: Optional[Key] = None, as_: Optional[str] = None) -> None:
         """ValueError, Malformed."""
-        host_and_port(address)
         if as_ is not None:
             a_name("as", as_)
-        self.address, self.patience = address, patience
+        self.patience = patience
+        self._addresses = Addresses(address)
         self._key, self._as = source_of(key), as_
         # Whether the connection has sent a line, and whose key that showed.
         self._has_spoken = False
@@ -127,6 +134,11 @@ class Speaking(Machine):
         # The lines that came and were not taken yet, and the beginning of the next one.
         self._lines: Deque[bytes] = deque()
         self._rest = b""
+
+    @property
+    def address(self) -> str:
+        """Where the server is, as far as is known: of several addresses the one that answered last, or that is tried now."""
+        return self._addresses.current
 
     def _forget(self) -> None:
         """What holds when there is no connection."""
@@ -151,7 +163,10 @@ class Speaking(Machine):
         """The next line, with its end; an empty one where the connection ended before, None where it did not come until the deadline.
         TurnedAway, or another OSError; WrongKey, behind which the connection is over."""
         while not self._lines:
-            data: Optional[bytes] = yield Receive(self._seconds_to(deadline))
+            data: Optional[bytes] = yield Receive(self._addresses.seconds(self._seconds_to(deadline), LOOK))
+            if data is None and self._addresses.are_several and self._now < deadline:
+                yield from self._look_elsewhere()
+                continue
             if not data:
                 return data
             self._take(data)
@@ -162,6 +177,13 @@ class Speaking(Machine):
         if is_wrong_key(line):
             raise WrongKey(WRONG_KEY, name=self._shown)
         return line
+
+    def _look_elsewhere(self) -> Steps[None]:
+        """Elsewhere, where another address serves. A server that is only slow, or whose workers are busy, is the one that does: whoever left
+        it would lose his turn, and what he holds."""
+        for one in self._addresses.others():
+            if (yield Serves(one, REACH)):
+                raise Elsewhere(one, self.address)
 
     def _take(self, data: bytes) -> None:
         *lines, rest = (self._rest + data).split(b"\n")
@@ -191,7 +213,7 @@ class Session(Speaking):
     """A client's side of its connections: the process that it speaks for, the number of its next request, and for how long it asks
     again."""
 
-    def __init__(self, address: str, patience: float, at_once: bool = False, key: Optional[Key] = None, as_: Optional[str] = None) -> None:
+    def __init__(self, address: Given, patience: float, at_once: bool = False, key: Optional[Key] = None, as_: Optional[str] = None) -> None:
         super().__init__(address, patience, key, as_)
         # The number of the process's next notice when it attached last.
         self.next_notice: Optional[int] = None
@@ -321,24 +343,32 @@ class Session(Speaking):
         while True:
             try:
                 answer = yield from attempt(deadline)
+                self._addresses.answered()
                 self._tell_back(request)
                 return answer
             except Taken as error:
                 why = error
+                self._addresses.answered()
                 if not lost and self._now + PAUSE > began + PARTING:
                     raise
             except (OSError, Stopped) as error:
                 yield Drop()
-                if isinstance(error, UnknownHost) and not self._met:
+                self._addresses.failed(error)
+                if self._addresses.have_all_failed(is_unknown) and not self._met:
                     raise
                 lost, why = True, error
                 self._lost(error)
-                if not self._met and (is_untrusted(error) or self._at_once and isinstance(error, ConnectionRefusedError)):
+                if not self._met and self._addresses.have_all_failed(self._is_hopeless):
                     self._give_up(request, why)
                 self._tell_lost(error)
             if lost and (self._closed or self._now + PAUSE > deadline):
                 self._give_up(request, why)
-            yield Pause(PAUSE)
+            if isinstance(why, Taken) or not self._addresses.go_on():
+                yield Pause(PAUSE)
+
+    def _is_hopeless(self, why: Exception) -> bool:
+        """Whether asking again does not mend what kept a client from its first connection."""
+        return is_untrusted(why) or self._at_once and isinstance(why, ConnectionRefusedError)
 
     def _tell_lost(self, why: Exception) -> None:
         if self._is_away or self._closed:
@@ -349,7 +379,8 @@ class Session(Speaking):
             what = f"nobody listens at {self.address}"
         elif isinstance(why, TurnedAway):
             what = f"all workers of {self.address} are busy"
-        LOG.warning("%s; trying%s", what, "" if self.patience > LONGEST_WAIT else f" for {self.patience:g} seconds")
+        where = f" {', '.join(self._addresses.others())} too" if self._addresses.are_several else ""
+        LOG.warning("%s; trying%s%s", what, where, "" if self.patience > LONGEST_WAIT else f" for {self.patience:g} seconds")
 
     def _tell_back(self, request: Request) -> None:
         if not self._is_away:
@@ -366,7 +397,7 @@ class Session(Speaking):
         if self._closed:
             raise ConnectionError("the client is closed")
         if not self._is_connected:
-            yield Connect(self._seconds_to(deadline))
+            yield Connect(self._addresses.seconds(self._seconds_to(deadline), REACH))
             self._is_connected = self._met = True
 
     def _attaching(self, process: str, deadline: float) -> Steps[int]:
@@ -440,6 +471,11 @@ def told(steps: Steps[Answer], says: Callable[[Answer], T]) -> Steps[T]:
     return says((yield from steps))
 
 
+def is_unknown(error: Exception) -> bool:
+    """Whether it is that there is no such host."""
+    return isinstance(error, UnknownHost)
+
+
 def is_untrusted(error: Exception) -> bool:
     """Whether it is that the other side's certificate is not trusted, which asking again does not mend."""
     return isinstance(error, ssl.SSLCertVerificationError)
@@ -508,7 +544,7 @@ class Watching(Speaking):
     """The notices of a process, each once and in order, from the number `first` on. `patience` is for how many seconds it connects
     anew."""
 
-    def __init__(self, address: str, process: str, first: int, patience: float, key: Optional[Key] = None, as_: Optional[str] = None) -> None:
+    def __init__(self, address: Given, process: str, first: int, patience: float, key: Optional[Key] = None, as_: Optional[str] = None) -> None:
         super().__init__(address, patience, key, as_)
         self.process, self.first = process, first
         line_of(self._request())
@@ -525,15 +561,17 @@ class Watching(Speaking):
                 if notice is not None:
                     return notice
                 # The server ends a watch of a process that was told nothing for a minute, and when it ends itself.
-                lost_since = None
+                lost_since, is_next = None, False
             except WrongKey:
                 yield Drop()
                 raise
             except OSError as error:
                 lost_since = lost_since or self._now
+                self._addresses.failed(error)
                 self._judge(error, lost_since)
+                is_next = self._addresses.go_on()
             yield Drop()
-            if not self._closed:
+            if not self._closed and not is_next:
                 yield Pause(PAUSE)
         yield Drop()
         return None
@@ -543,9 +581,9 @@ class Watching(Speaking):
         self._lost(error)
         if self._closed:
             return
-        if isinstance(error, UnknownHost) and not self._met:
+        if self._addresses.have_all_failed(is_unknown) and not self._met:
             raise error
-        if self._now + PAUSE > lost_since + self.patience or (is_untrusted(error) and not self._met):
+        if self._now + PAUSE > lost_since + self.patience or (self._addresses.have_all_failed(is_untrusted) and not self._met):
             self._give_up(self._request(), error)
         if not self._is_away:
             self._is_away = True
@@ -559,7 +597,7 @@ class Watching(Speaking):
     def _hearing(self) -> Steps[Optional[Notice]]:
         """The next notice; None where the connection ended or was silent for too long."""
         if not self._is_connected:
-            yield Connect(min(SILENCE, max(1.0, self.patience)))
+            yield Connect(self._addresses.seconds(min(SILENCE, max(1.0, self.patience)), REACH))
             self._met = True
             if self._closed:
                 return None
@@ -572,6 +610,7 @@ class Watching(Speaking):
         if not line:
             return None
         notice = notice_of(answer_of(line, self._request()))
+        self._addresses.answered()
         self._tell_back()
         self.first = notice.n + 1
         return notice

@@ -24,13 +24,14 @@ from typing import (
     Any, AsyncIterator, Callable, Coroutine, Generator, Generic, Iterable, List, Mapping, Optional, Set, Tuple, Type, TypeVar, Union,
 )
 
+from ._addresses import QUESTION, Given, addresses_of, is_answer
 from ._keys import Key
 from ._protocol import (
     PARTING, Accepted, Answer, Notice, Notices, Points, Reading, Refused, Request, Slots, Status, Version, acknowledge, host_and_port,
     no_such_host, prepare,
 )
 from ._session import (
-    PIECE, Ask, Connect, Course, Drop, Keeping, Machine, Pause, Receive, Send, Session, Speaking, Step, Steps, Wait, Watching, lines_of,
+    PIECE, Ask, Connect, Course, Drop, Keeping, Machine, Pause, Receive, Send, Serves, Session, Speaking, Step, Steps, Wait, Watching, lines_of,
 )
 
 __all__ = ["Client", "Held", "Watch", "connect", "watch"]
@@ -79,12 +80,12 @@ class Opening(Generic[Ends]):
         await self._made._leave()
 
 
-def connect(address: str, process: Optional[str] = None, patience: float = 60.0, *, at_once: bool = False,
+def connect(address: Given, process: Optional[str] = None, patience: float = 60.0, *, at_once: bool = False,
             tls: Optional[ssl.SSLContext] = None, key: Optional[Key] = None, as_: Optional[str] = None) -> "Opening[Client]":
     """A Client that is connected, and attached as the process if it is given: `await` it, or open it by `async with`. With `at_once` a
     server that nobody has started is not waited for; `tls`, `key` and `as_` are as those of `bossd.Client`. ValueError for an address or a
     key that is none, Malformed for a name in `as_`, UnknownHost, Unanswered; or as `attach`."""
-    host_and_port(address)
+    addresses_of(address)
     return Opening(Client(address, patience, at_once=at_once, tls=tls, key=key, as_=as_)._open(process))
 
 
@@ -98,6 +99,19 @@ async def connected(address: str, seconds: float, tls: Optional[ssl.SSLContext])
         raise ConnectionError("the server was not reached in time") from error
     prepare(stream[1].get_extra_info("socket"))
     return stream
+
+
+async def serves(address: str, seconds: float, tls: Optional[ssl.SSLContext]) -> bool:
+    """Whether a server answers at the address, in about so many seconds."""
+    try:
+        source, sink = await connected(address, seconds, tls)
+        try:
+            sink.write(QUESTION)
+            return is_answer(await asyncio.wait_for(source.read(PIECE), seconds))
+        finally:
+            sink.close()
+    except (OSError, asyncio.TimeoutError):
+        return False
 
 
 class Connection(Speaking):
@@ -116,6 +130,8 @@ class Connection(Speaking):
             return await self._receive(step.seconds)
         elif isinstance(step, Drop):
             self._drop()
+        elif isinstance(step, Serves):
+            return await serves(step.address, step.seconds, self._tls)
         else:
             assert isinstance(step, Pause)
             await asyncio.sleep(step.seconds)
@@ -154,7 +170,7 @@ class Client(Closable, Session, Connection):
     of one loop, and asks one request at a time. `patience` is for how many seconds a request is asked again, over new connections,
     until it is answered."""
 
-    def __init__(self, address: str, patience: float = 60.0, *, at_once: bool = False, tls: Optional[ssl.SSLContext] = None,
+    def __init__(self, address: Given, patience: float = 60.0, *, at_once: bool = False, tls: Optional[ssl.SSLContext] = None,
                  key: Optional[Key] = None, as_: Optional[str] = None) -> None:
         super().__init__(address, patience, at_once, key, as_)
         self._hold_with(tls)
@@ -321,7 +337,7 @@ class Held(Closable, Keeping):
         return await self._client.ask(step.request)
 
 
-def watch(address: str, process: str, first: int = 1, patience: float = 60.0, *, tls: Optional[ssl.SSLContext] = None,
+def watch(address: Given, process: str, first: int = 1, patience: float = 60.0, *, tls: Optional[ssl.SSLContext] = None,
           key: Optional[Key] = None, as_: Optional[str] = None) -> "Watch":
     """The Notices of a process as they come, from the number `first` on, each once and in order: a Watch, for `async for`."""
     return Watch(address, process, first, patience, tls=tls, key=key, as_=as_)
@@ -332,7 +348,7 @@ class Watch(Watching, Connection, AsyncIterator[Notice]):
     It is as `bossd.Watch`: `patience` is for how many seconds it connects anew before it raises Unanswered. A task that waits for a
     notice may be cancelled, and the watch used again: no notice is lost by that. `close` ends it; `async with` closes it at the end."""
 
-    def __init__(self, address: str, process: str, first: int = 1, patience: float = 60.0, *,
+    def __init__(self, address: Given, process: str, first: int = 1, patience: float = 60.0, *,
                  tls: Optional[ssl.SSLContext] = None, key: Optional[Key] = None, as_: Optional[str] = None) -> None:
         super().__init__(address, process, first, patience, key, as_)
         self._hold_with(tls)

@@ -19,10 +19,11 @@ import time
 from typing import IO, Any, Dict, List, NamedTuple, Optional, Sequence, Tuple
 
 from . import aio
+from ._addresses import addresses_of
 from ._keys import Source as KeySource
 from ._keys import key_in
 from ._protocol import (
-    LONGEST_LINE, PULSE, Ended, NoMemory, NotYours, Refused, Request, Stopped, Taken, UnknownHost, UnknownTransaction, host_and_port, line_of,
+    LONGEST_LINE, PULSE, Ended, NoMemory, NotYours, Refused, Request, Stopped, Taken, UnknownHost, UnknownTransaction, line_of,
     renewal, several, steps_of, submission, table, a_step, a_text, whole, wrong, write,
 )
 
@@ -411,7 +412,7 @@ def locked(path: str) -> IO[str]:
 def main(given: Optional[Sequence[str]] = None) -> int:
     """Ends with 0 when it is told to end, with 1 where it cannot go on, with 2 where the words are none, with 3 where the file is damaged."""
     parser = argparse.ArgumentParser(prog="bossd-overrides", description="Holds people's overrides until they are released.")
-    parser.add_argument("server", metavar="HOST:PORT", help="where the server listens")
+    parser.add_argument("server", metavar="HOST:PORT[,..]", help="where the server listens, or may")
     parser.add_argument("--file", default=FILE, help="where the overrides are kept (%(default)s)")
     parser.add_argument("--socket", default=SOCKET, help="where it is asked (%(default)s)")
     parser.add_argument("--as", dest="process", metavar="NAME", default=PROCESS, help="the control process that it is (%(default)s)")
@@ -419,7 +420,7 @@ def main(given: Optional[Sequence[str]] = None) -> int:
                         "file, is none. Its user's group alone may ask over the socket then")
     words = parser.parse_args(given)
     try:
-        host_and_port(words.server)
+        addresses_of(words.server)
     except ValueError as error:
         parser.error(str(error))
     logging.basicConfig(format="bossd-overrides: %(message)s", level=logging.INFO)

@@ -14,7 +14,7 @@ import bossd
 import bossd.aio
 
 from . import __version__, told, week
-from .catalogue import Ask, Failure, NoAnswer, asking, host_and_port, now, process_in, taken_key
+from .catalogue import Ask, Failure, NoAnswer, addresses_of, asking, now, process_in, taken_key
 from .idle import note_idle
 from .reading import Reader, Schedule
 from .running import Clock, Link, Running
@@ -269,7 +269,7 @@ def main(said: Optional[List[str]] = None) -> None:
     wrong = faulty(given)
     if wrong is None and given.server is not None:
         try:
-            host_and_port(given.server)
+            addresses_of(given.server)
         except ValueError as error:
             wrong = str(error)
     if wrong is not None:

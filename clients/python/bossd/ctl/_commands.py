@@ -11,9 +11,10 @@ import socket
 import sys
 import time
 from collections import Counter, deque
-from typing import Any, Deque, Dict, Iterable, Iterator, List, Optional
+from typing import Any, Deque, Dict, Iterable, Iterator, List, Optional, Tuple
 
 from .. import __version__
+from .._addresses import LOOK, addresses_of
 from .._client import Client, Watch
 from .._protocol import Accepted, Denied, Notice, Over, Request, Unanswered, UnknownOp, UnknownTransaction, Version, write
 from ..overrides import NotMade, asked as overrides_asked
@@ -44,7 +45,9 @@ def aside(text: str) -> None:
 
 
 def client_of(words: Words) -> Client:
-    return Client(words.server, None, words.patience, at_once=True, tls=words.context, key=_key.shown(words), as_=_key.asking_name(words))
+    # Where the server may be at several places nobody is at any of them while it changes from one to another.
+    return Client(words.server, None, words.patience, at_once=len(addresses_of(words.server)) == 1, tls=words.context,
+                  key=_key.shown(words), as_=_key.asking_name(words))
 
 
 def catalogue_of(words: Words, client: Client) -> Catalogue:
@@ -630,19 +633,39 @@ def faults(words: Words) -> int:
 
 
 def status(words: Words) -> int:
-    found = _live.health(words.server, words.patience, words.workers, words.context, _key.shown(words), _key.asking_name(words))
+    server, found, others = serving(words)
     if words.json:
-        tell_json({"server": words.server, **found._asdict(), "version": program_told(words) if found.answers else None})
-    elif not found.answers:
-        tell([f"{words.server} does not answer: {found.why}"])
+        told = {"server": server, **found._asdict(), "version": program_told(words) if found.answers else None}
+        tell_json({**told, "others": [{"server": one, **other._asdict()} for one, other in others]} if others else told)
     else:
-        free = f"{found.free} or more workers are free" if found.free == found.tried else f"{found.free} workers are free besides"
-        tell([f"{words.server} answers, in {found.milliseconds:.1f} ms; {free}"])
-        if found.free == 0:
-            aside("whoever connects now waits: more WORKERS, or fewer connections that stay")
-        with client_of(words) as client:
-            tell([program_sentence(program_of(client)), summary(_live.views(client, catalogue_of(words, client).points.values()))])
+        say_health(server, found)
+        for one, other in others:
+            say_health(one, other)
+        if found.answers:
+            with client_of(words) as client:
+                tell([program_sentence(program_of(client)), summary(_live.views(client, catalogue_of(words, client).points.values()))])
     return FINE if found.answers else 3
+
+
+def serving(words: Words) -> Tuple[str, _live.Health, List[Tuple[str, _live.Health]]]:
+    """Which address serves, of several, and how it is; and how the others are. From here on that one is asked."""
+    everyone = addresses_of(words.server)
+    patience = words.patience if len(everyone) == 1 else min(words.patience, LOOK)
+    key, name = _key.shown(words), _key.asking_name(words)
+    found = [(one, _live.health(one, patience, words.workers, words.context, key, name)) for one in everyone]
+    first, *others = sorted(found, key=lambda each: not each[1].answers)
+    words.server = first[0]
+    return (*first, others)
+
+
+def say_health(server: str, found: _live.Health) -> None:
+    if not found.answers:
+        tell([f"{server} does not answer: {found.why}"])
+        return
+    free = f"{found.free} or more workers are free" if found.free == found.tried else f"{found.free} workers are free besides"
+    tell([f"{server} answers, in {found.milliseconds:.1f} ms; {free}"])
+    if found.free == 0:
+        aside("whoever connects now waits: more WORKERS, or fewer connections that stay")
 
 
 def program_of(client: Client) -> Optional[Version]:

@@ -51,8 +51,9 @@ def at_every_place(parser: argparse.ArgumentParser, is_top: bool) -> None:
         return value if is_top else argparse.SUPPRESS
 
     group = parser.add_argument_group("options of every command")
-    group.add_argument("--server", metavar="HOST:PORT", default=given(environment.get("BOSSD_SERVER") or SERVER),
-                       help=f"where the server listens (or BOSSD_SERVER in the environment; {SERVER})")
+    group.add_argument("--server", metavar="HOST:PORT[,..]", default=given(environment.get("BOSSD_SERVER") or SERVER),
+                       help=f"where the server listens (or BOSSD_SERVER in the environment; {SERVER}); several, with commas between them, where it"
+                       " may be at any")
     group.add_argument("--catalogue", metavar="FILE", default=given(environment.get("BOSSD_CATALOGUE")),
                        help="a file with the server's catalogue (or BOSSD_CATALOGUE in the environment; else "
                        f"{_served.DEFAULT}, where it may be read): it has the units and notes of points, which the server does not keep. Without "

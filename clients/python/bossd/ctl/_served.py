@@ -3,6 +3,7 @@
 import os
 from typing import Callable, NamedTuple, Optional
 
+from .._addresses import addresses_of
 from .._client import Client
 from .._keys import Key
 from .._protocol import Refused, Unanswered, UnknownHost, UnknownOp, host_and_port, is_name
@@ -91,8 +92,8 @@ def told(ask: Optional[Ask]) -> Catalogue:
 
 def is_local(server: str) -> bool:
     """Whether a server is on this machine, as the unit's catalogue is."""
-    host = host_and_port(server)[0]
-    return host in ("localhost", "::1") or host.startswith("127.")
+    hosts = [host_and_port(one)[0] for one in addresses_of(server)]
+    return all(host in ("localhost", "::1") or host.startswith("127.") for host in hosts)
 
 
 def differs(file: Catalogue, told: Catalogue) -> str:
