@@ -6,7 +6,7 @@
  * request. Prints the answers a second, and of their times, in microseconds, that behind which half and that behind which a hundredth
  * of them lie. Ends with 1 at an answer that is an error.
  *
- * KIND is bossd-submit, bossd-renew, bossd-read, redis-set, redis-pexpire, redis-pttl, etcd-grant or etcd-keepalive. bossd and Redis
+ * KIND is bossd-submit, bossd-renew, bossd-read, redis-set, redis-pexpire, redis-pttl, etcd-grant, etcd-keepalive or etcd-put. bossd and Redis
  * speak lines, and each of these requests has an answer of one line. etcd speaks gRPC, of which the little that is needed stands here. */
 #include <arpa/inet.h>
 #include <netinet/tcp.h>
@@ -193,6 +193,24 @@ static size_t etcd_grant(struct talk *talk, unsigned char *into) {
     return length;
 }
 
+/* A put of 36 bytes, as the record of a small submit, under a key of this connection. */
+static size_t etcd_put(struct talk *talk, unsigned char *into) {
+    unsigned char text[64];
+    size_t size = (size_t)sprintf((char *)text + 7, "load/%04d", talk->number);
+    memcpy(text, "\0\0\0\0\0\x0a", 6);
+    text[6] = (unsigned char)size;
+    size += 7;
+    memcpy(text + size, "\x12\x24", 2);
+    memset(text + size + 2, 'v', 36);
+    size += 2 + 36;
+    text[4] = (unsigned char)(size - 5);
+    size_t length = headers(into, "/etcdserverpb.KV/Put", talk->stream);
+    memcpy(into + length + 9, text, size);
+    length += frame(into + length, size, DATA, END_STREAM, talk->stream);
+    talk->stream += 2;
+    return length;
+}
+
 /* A lease of this run. */
 static long lease_of(struct talk *talk) { return (long)getpid() << 16 | (talk->number + 1); }
 
@@ -273,6 +291,7 @@ static const struct kind KINDS[] = {
     {"bossd-read", bossd_read, read_begin, hear_lines},     {"redis-set", redis_set, redis_begin, hear_lines},
     {"redis-pexpire", redis_pexpire, redis_begin, hear_lines}, {"redis-pttl", redis_pttl, redis_begin, hear_lines},
     {"etcd-grant", etcd_grant, etcd_begin, hear_frames},     {"etcd-keepalive", etcd_keepalive, keepalive_begin, hear_frames},
+    {"etcd-put", etcd_put, etcd_begin, hear_frames},
 };
 
 /* ---- the load */

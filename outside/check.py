@@ -34,7 +34,7 @@ TESTS = {
              "test_ctl.Showing", "test_follow", "test_keys", "test_session", "test_tls"],
     CONSOLE: ["tests.test_history", "tests.test_journal", "tests.test_keys", "tests.test_knowing.Before", "tests.test_knowing.Told", "tests.test_parts",
               "tests.test_schedules"],
-    "": ["outside.test_edits", "outside.test_references"],
+    "": ["outside.test_edits", "outside.test_failover", "outside.test_references"],
 }
 NO_PROGRAM = "/nonexistent/bossd"
 # How long, in seconds, one program may take; a machine with much other work takes long.

@@ -11,7 +11,7 @@ from typing import Callable, Optional, Sequence
 from .. import overrides
 from .._client import tls_context
 from .._protocol import Busy, Refused, Unanswered, UnknownHost
-from . import _commands, _feed, _field, _follow, _journal, _key, _served
+from . import _commands, _elect, _feed, _field, _follow, _journal, _key, _served
 from ._toml import Failure
 
 SERVER = "127.0.0.1:7000"
@@ -20,7 +20,7 @@ FAULT, USAGE, NO_ANSWER, BROKEN = 1, 2, 3, 130
 ABOUT = """Shows and sets what a building's bossd holds.
 
 Each command asks a running server, but for journal and lint, which read files, field, which stands for devices, and feed and follow, which
-keep a standby. Every connection takes one of the server's workers as long as it lasts."""
+keep a standby, and elect, which serves. Every connection takes one of the server's workers as long as it lasts."""
 
 ENDS = """A priority is 1 to 16 but not 6, and the least number wins; 8 is Manual Operator. Lengths of time are written 30m, 90s, 1h30m, 250ms
 or 2d. Values of analog points are in units, as 45 or 21.5.
@@ -250,6 +250,11 @@ def parser_of() -> argparse.ArgumentParser:
                     "Goes round each SECONDS, or once: COMMAND, which gets two words more, the number above which events are wanted and the digest of\n"
                     "CATALOGUE, writes a feed, and bossd takes it into JOURNAL. bossd-follow(8) says more.")
     one.usage = "bossctl follow CATALOGUE JOURNAL SECONDS|once COMMAND WORD.."
+
+    one = add_plain(commands, "elect", _elect.elect, "serve while this machine is the elected one of several",
+                    "Waits for the lock of etcd until no other machine serves NAME, then runs the command, which serves it, and watches it: it is stopped\n"
+                    "while nobody tells whether the lock is still there, and killed once that is gone or the server hangs. bossd-elected(8) says more.")
+    one.usage = "bossctl elect PROGRAM .. serve CATALOGUE etcd:HOST:PORT[,HOST:PORT..]/NAME ADDRESS WORKERS CONNECTIONS [RULES [PLAN]]"
 
     add(commands, "version", _commands.version, "show the version of bossctl")
     return parser
