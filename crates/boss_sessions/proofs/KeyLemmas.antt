@@ -1,11 +1,13 @@
 -- What is read where there are keys.
-use Rattle.std.proofs.Common.{◌≡◌, ℕ, Bool, true, false, not, if◌then◌else◌, List, bytes_eq, Option, Some, None, refl, ap, sym, ◌∙◌, subst}
+use Rattle.std.proofs.Common.{◌≡◌, ℕ, Bool, true, false, not, if◌then◌else◌, List, codes, bytes_eq, Option, Some, None, refl, ap, sym, ◌∙◌, subst}
 use Rattle.std.proofs.lemmas.Slice.Eq.{bytes_eq-Decides}
 use Rattle.serde_json.specs.Data.{Data, null, boolean, number, string, array, object}
+use Rattle.serde_json.specs.Find.{as_str}
 use Rattle.boss_model.specs.Catalogue.{Catalogue}
 use Rattle.boss_model.specs.declared.command.Command.{Command}
 use Rattle.boss_model.specs.declared.command.Command.TheVariants as command
 use Rattle.def_wire.specs.declared.form.Form.{Form}
+use Rattle.def_wire.specs.Keys.{under}
 use Rattle.def_wire.specs.Requests.{◌>>=◌, parsed, read_in, request_of, value_in}
 use Rattle.def_connection.specs.Showing.{IsBarred, IsOwn, AsksOwn, IsGuarded}
 use Rattle.def_connection.specs.Speech.{Reading, asks, watches, refuses, forbids, Footing, known_by}
@@ -13,7 +15,7 @@ use Rattle.boss_keys.specs.declared.entry.Entry.{Entry}
 use Rattle.boss_keys.specs.Admission.{admits}
 use Rattle.boss_callers.specs.declared.shown.Shown.{Shown}
 use Rattle.boss_callers.specs.declared.shown.Shown.TheVariants.{NoObject, Key, WrongKey}
-use Rattle.boss_callers.specs.Shown.{is_object, name_shown, shown_by, shown_for, shown_in}
+use Rattle.boss_callers.specs.Shown.{is_object, name_in, name_shown, shown_by, shown_for, shown_in}
 use Rattle.boss_sessions.specs.Speaking.{asked_in, form_of, guarded, is_other, manner_of, owned, reading_in, reading_of}
 
 -- ---- a line that is no object
@@ -43,7 +45,7 @@ no-object keys (boolean b) is = refl
 no-object keys (number n) is = refl
 no-object keys (string s) is = refl
 no-object keys (array ds) is = refl
-no-object keys (object ms) is = absurd (shows-some keys _ _ is)
+no-object keys (object ms) is = absurd (shows-some keys (name_in (object ms)) (under (codes "key") as_str (object ms)) is)
 
 value-barred : (catalogue : Catalogue) (keys : List Entry) (form : Form) (value : Option Data) → shown_in keys value ≡ NoObject → IsBarred (reading_of (read_in value >>= request_of catalogue form))
 value-barred catalogue keys form None is = tt

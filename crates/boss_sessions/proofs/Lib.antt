@@ -6,6 +6,7 @@ pub mod ReadLemmas
 pub mod KeyLemmas
 pub mod RequestLemmas
 pub mod AnsweredLemmas
+pub mod CauseLemmas
 pub mod EndedLemmas
 pub mod PartingLemmas
 pub mod ReplyLemmas

@@ -1,5 +1,6 @@
-use Rattle.std.proofs.Common.{◌≡◌, [], map, None, option_copied, refl, ap, sym, ◌∙◌, subst, arith}
+use Rattle.std.proofs.Common.{◌≡◌, [], map, None, Some, option_copied, refl, ap, sym, ◌∙◌, subst, arith}
 use Rattle.boss_model.specs.Catalogue.{actuators}
+use Rattle.def_history.specs.History.{is_broken}
 use Rattle.boss_sessions.specs.Gathered.{Gathered}
 use Rattle.boss_sessions.specs.Places.{footing_of, place_of}
 use Rattle.boss_sessions.specs.Speaking.{speech_of}
@@ -10,6 +11,9 @@ use Rattle.def_connection.specs.Speech.{last_or}
 use Rattle.def_connection.specs.Talks.{standing}
 use Rattle.boss_sessions.specs.Rounds.{named, Ended, Rounded}
 use Rattle.boss_sessions.proofs.AnsweredLemmas.{last-soon}
+use Rattle.boss_sessions.specs.Ends.{end_behind, DiskCause, WriteCause}
+use Rattle.boss_sessions.specs.Turns.{voice}
+use Rattle.boss_sessions.proofs.CauseLemmas.{disk-behind, disk-halted, write-behind, write-halted}
 use Rattle.boss_sessions.proofs.HoldingLemmas.{batch-judged, others-judged}
 use Rattle.boss_sessions.proofs.RoundLemmas.{batch-goes, round-ends, round-halted}
 use Rattle.boss_sessions.proofs.rounds.round.Goals as goal
@@ -113,3 +117,36 @@ returns-in-Err-clause-others g c = others-judged (g.G.Desk.denies c.args.desk.no
 pub returns-in-Ok-clause-others : goal.returns-in-Ok-clause-others
 returns-in-Ok-clause-others g c = others-judged (g.G.Desk.denies c.args.desk.now) c.args.number c.hear-heard.new.commands.items (c.in-Ok.ensures.replied None).replies
     (g.G.Desk.held c.args.pass.now) (g.G.Desk.held c.answer_all-answered.new.pass) (c.in-Ok.ensures.replied None).judged
+
+pub returns-in-Err-clause-written : goal.returns-in-Err-clause-written
+returns-in-Err-clause-written g c =
+    let old = voice (entries_at (g.G.Desk.seen c.args.pass.now) (g.G.Desk.mine c.args.pass.now)) (g.K.Sink.taken c.args.sink.now) (g.K.Sink.faults c.args.sink.now)
+    c.args.session.now.attached (g.G.Desk.seen c.args.pass.now) (g.G.Desk.held c.args.pass.now) in
+    let new = voice (entries_at (g.G.Desk.seen c.answer_all-answered.new.pass) (g.G.Desk.mine c.answer_all-answered.new.pass)) (g.K.Sink.taken c.answer_all-answered.new.sink)
+    (g.K.Sink.faults c.answer_all-answered.new.sink) c.answer_all-answered.new.attached (g.G.Desk.seen c.answer_all-answered.new.pass) (g.G.Desk.held c.answer_all-answered.new.pass) in
+    subst (λ e. WriteCause (g.K.Sink.faults c.args.sink.now) (g.K.Sink.faults c.answer_all-answered.new.sink) (Some e)) (sym c.end_at.ensures)
+    (write-halted (speech_of c.args.catalogue.now (g.G.Desk.denies c.args.desk.now) None) c.args.number g.K.Sink.tells c.hear-heard.new.commands.items old new c.in-Err.halt c.hear-heard.result
+    (c.in-Err.ensures.replied None).comes.1)
+
+pub returns-in-Err-clause-kept : goal.returns-in-Err-clause-kept
+returns-in-Err-clause-kept g c =
+    let old = voice (entries_at (g.G.Desk.seen c.args.pass.now) (g.G.Desk.mine c.args.pass.now)) (g.K.Sink.taken c.args.sink.now) (g.K.Sink.faults c.args.sink.now)
+    c.args.session.now.attached (g.G.Desk.seen c.args.pass.now) (g.G.Desk.held c.args.pass.now) in
+    let new = voice (entries_at (g.G.Desk.seen c.answer_all-answered.new.pass) (g.G.Desk.mine c.answer_all-answered.new.pass)) (g.K.Sink.taken c.answer_all-answered.new.sink)
+    (g.K.Sink.faults c.answer_all-answered.new.sink) c.answer_all-answered.new.attached (g.G.Desk.seen c.answer_all-answered.new.pass) (g.G.Desk.held c.answer_all-answered.new.pass) in
+    subst (λ e. DiskCause (is_broken (g.G.Desk.seen c.args.pass.now)) (is_broken (g.G.Desk.seen c.answer_all-answered.new.pass)) (Some e)) (sym c.end_at.ensures)
+    (disk-halted (speech_of c.args.catalogue.now (g.G.Desk.denies c.args.desk.now) None) c.args.number g.K.Sink.tells c.hear-heard.new.commands.items old new c.in-Err.halt c.hear-heard.result
+    (c.in-Err.ensures.replied None).comes.1)
+
+pub returns-in-Ok-clause-written : goal.returns-in-Ok-clause-written
+returns-in-Ok-clause-written g c =
+    let told = g.K.Sink.faults c.tell_behind-told.new.sink in
+    subst (WriteCause (g.K.Sink.faults c.args.sink.now) told) (sym c.end_behind.ensures)
+    (subst (λ n. WriteCause n told (end_behind c.hear-heard.result c.tell_behind-told.result)) (c.in-Ok.ensures.replied None).comes.calm
+    (write-behind (g.K.Sink.faults c.answer_all-answered.new.sink) told c.hear-heard.result c.tell_behind-told.result c.tell_behind-told.ensures.cause))
+
+pub returns-in-Ok-clause-kept : goal.returns-in-Ok-clause-kept
+returns-in-Ok-clause-kept g c =
+    subst (DiskCause (is_broken (g.G.Desk.seen c.args.pass.now)) (is_broken (g.G.Desk.seen c.answer_all-answered.new.pass))) (sym c.end_behind.ensures)
+    (disk-behind (is_broken (g.G.Desk.seen c.args.pass.now)) (is_broken (g.G.Desk.seen c.answer_all-answered.new.pass)) c.hear-heard.result c.tell_behind-told.result
+    (c.in-Ok.ensures.replied None).comes.whole)

@@ -1,10 +1,11 @@
-use Rattle.std.proofs.Common.{length, refl, ap, sym, ◌∙◌, subst, arith}
+use Rattle.std.proofs.Common.{◌≡◌, length, refl, ap, sym, ◌∙◌, subst, arith}
 use Rattle.std.specs.List.{AllByRecursion}
+use Rattle.std.proofs.lemmas.Bool.{eqb-true}
 use Rattle.std.proofs.lemmas.List.{length-drop}
 use Rattle.boss_model.specs.Catalogue.{actuators}
 use Rattle.def_history.specs.History.{MayCall}
 use Rattle.boss_sessions.specs.Speaking.{speech_of}
-use Rattle.boss_sessions.proofs.AnsweredLemmas.{all-drop, answered-halted, answered-more, answered-nothing}
+use Rattle.boss_sessions.proofs.AnsweredLemmas.{all-drop, answered-all, answered-halted, answered-more, answered-nothing}
 use Rattle.boss_sessions.proofs.turns.answer_all.Goals as goal
 
 pub loop-session-init : goal.loop-session-init
@@ -37,3 +38,9 @@ loop-session-preserved g c =
       answered = λ keys. answered-more (speech_of c.args.catalogue.now (g.G.Desk.denies c.args.desk.now) keys) c.args.session g.K.Sink.tells c.args.commands.items c.loop-session.held c.without_front-held.result _ _ _ c.in-Ok.count
           (inv.answered keys) (c.in-Ok.ensures.replied keys) c.in-Ok.ensures.some.1 c.without_front-held.ensures;
     }
+
+pub returns-clause-replied : goal.returns-clause-replied
+returns-clause-replied g c keys =
+    let none : length c.loop-session.held ≡ 0 = sym (ap length c.slice.ensures) ∙ eqb-true (length c.slice.result.now) 0 (sym c.is_empty.ensures ∙ c.loop-session-test.false) in
+    answered-all (speech_of c.args.catalogue.now (g.G.Desk.denies c.args.desk.now) keys) c.args.session g.K.Sink.tells c.args.commands.items c.loop-session.held _ _ none
+    (c.loop-session.invariant.answered keys)
