@@ -99,8 +99,9 @@ where
     let Site {
         catalogue,
         rules,
-        keys,
+        keys: own_keys,
     } = site;
+    let keys = own_keys.as_ref();
     let drives = drives_for(catalogue, outside.devices);
     let (desk, pass) = match Manager::new(rt, alloc, keeper, workers + 2 + u32::from(drives)) {
         Ok(made) => made,
@@ -109,7 +110,7 @@ where
     let server = Server {
         desk: &desk,
         catalogue,
-        keys: keys.as_ref(),
+        keys,
         workers,
     };
     let (pass, told) = serve_behind(alloc, server, rules, pass, outside, connections, drives);

@@ -1,15 +1,15 @@
 -- Whoever attaches on a connection has shown its key.
-use Rattle.std.proofs.Common.{◌≡◌, ◌⊎◌, inl, inr, ℕ, Bool, true, false, cond, List, [], ◌∷◌, ◌++◌, map, filter, not, Option, Some, None, refl, ap, sym, ◌∙◌, subst, append_assoc}
+use Rattle.std.proofs.Common.{◌≡◌, inl, inr, ℕ, Bool, true, false, cond, List, [], ◌∷◌, ◌++◌, filter, not, Option, Some, None, refl, ap, sym, ◌∙◌, subst, append_assoc}
 use Rattle.std.specs.List.{AllByRecursion}
 use Rattle.boss_model.specs.declared.answer.Answer.{Answer}
 use Rattle.boss_model.specs.Catalogue.{Catalogue, actuators}
-use Rattle.boss_model.specs.Lines.{lines, is_blank}
+use Rattle.boss_model.specs.Lines.{is_blank}
 use Rattle.def_history.specs.declared.entry.Entry.{Entry}
 use Rattle.def_lanes.specs.Lanes.{done_in}
 use Rattle.def_lanes.specs.Works.{Course, Work, visit, beat, drive, lane_of_work}
 use Rattle.boss_outside_server.specs.Hosts.{Served}
 use Rattle.def_connection.specs.Losing.{spoken_of, Lost}
-use Rattle.def_connection.specs.Showing.{AreOwn, IsGuarded, ShowsKey, IsShown as IsShownExchange, AreShown as AreShownAll}
+use Rattle.def_connection.specs.Showing.{AreOwn, IsGuarded, IsShown, AreShown}
 use Rattle.def_connection.specs.Speech.{Footing, Manner, beginning, Exchange, unread, refused, called, line_in, known_by, after, after_exchange, after_talk, deeds_in, attached_in, parting_of, last_or}
 use Rattle.def_connection.specs.Stopping.{Stop}
 use Rattle.def_connection.specs.Watching.{watched_in, next_from}
@@ -21,7 +21,7 @@ use Rattle.boss_callers.specs.declared.shown.Shown.TheVariants.{NoObject, Key, W
 use Rattle.boss_callers.specs.Shown.{shown_by, name_shown}
 use Rattle.boss_sessions.specs.Speaking.{manner_of, speech_of}
 use Rattle.boss_watching.specs.Notes.{notes}
-use Rattle.boss_worker.specs.Keyed.{HasShown, IsShown, IsShownWork}
+use Rattle.boss_worker.specs.Keyed.{HasShown, IsByKey, IsByKeyWork}
 use Rattle.boss_worker.specs.Saying.{IsVisit, says}
 
 -- ---- lines
@@ -79,13 +79,13 @@ talk-none manner at [] is = is
 talk-none manner at (x ∷ talk) is = exchange-none manner at x (talk-none manner (after_exchange manner at x) talk is)
 
 -- nothing was called
-nothing-called : (manner : Manner) (at : Footing) (session : ℕ) (talk : List Exchange) → AreShownAll manner at talk → (after_talk manner at talk).known ≡ None →
+nothing-called : (manner : Manner) (at : Footing) (session : ℕ) (talk : List Exchange) → AreShown manner at talk → (after_talk manner at talk).known ≡ None →
     (deeds_in session talk ≡ []) × (attached_in talk ≡ false)
 nothing-called manner at session [] shown none = (refl, refl)
 nothing-called manner at session (unread line ∷ talk) shown none = nothing-called manner (after_exchange manner at (unread line)) session talk shown.1 none
 nothing-called manner at session (refused line why ∷ talk) shown none = nothing-called manner (after manner at line) session talk shown.1 none
 nothing-called manner at session (called line asked moment reply ∷ talk) shown none =
-    absurd (subst (λ known. IsShownExchange known (called line asked moment reply)) (talk-none manner (after manner at line) talk none) shown.0)
+    absurd (subst (λ known. IsShown known (called line asked moment reply)) (talk-none manner (after manner at line) talk none) shown.0)
 
 -- ---- a connection
 
@@ -94,7 +94,7 @@ watched-own known session name from [] = tt
 watched-own known session name from (turn ∷ turns) = (tt, watched-own known session name (next_from from turn.1) turns)
 
 module _ (catalogue : Catalogue) (gates : List Gate) (keys : List KeyEntry) (guarded : IsGuarded (manner_of catalogue (Some keys))) where
-  visit-shown : (tells : Type 0) (served : Served) (course : Course) (entries : List Entry) → IsVisit catalogue gates (Some keys) tells served course entries → IsShown keys served entries
+  visit-shown : (tells : Type 0) (served : Served) (course : Course) (entries : List Entry) → IsVisit catalogue gates (Some keys) tells served course entries → IsByKey keys served entries
   visit-shown tells served course entries (inl talks) =
       let manner = manner_of catalogue (Some keys) in
       let said = talks.exchanged in
@@ -123,7 +123,7 @@ module _ (catalogue : Catalogue) (gates : List Gate) (keys : List KeyEntry) (gua
 
   pub works-shown : (heeds tells pausing : Type 0) (log : List Entry) → heeds → (works : List Work) →
       AllByRecursion (λ work. says catalogue gates (Some keys) heeds tells pausing work (done_in (actuators catalogue) (lane_of_work work) log)) works →
-      AllByRecursion (λ work. IsShownWork keys work (done_in (actuators catalogue) (lane_of_work work) log)) works
+      AllByRecursion (λ work. IsByKeyWork keys work (done_in (actuators catalogue) (lane_of_work work) log)) works
   works-shown heeds tells pausing log heard [] each = tt
   works-shown heeds tells pausing log heard (visit served course ∷ works) each =
       (visit-shown tells served course _ (each.0.1 heard), works-shown heeds tells pausing log heard works each.1)

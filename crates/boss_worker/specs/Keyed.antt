@@ -25,17 +25,17 @@ pub record HasShown (keys : List KeyEntry) (served : Served) (name : List ℕ) :
 
 -- A connection with these entries showed the key of a name, and each attach among them is of that name; or it showed none, and there are
 -- no entries
-pub record IsShown (keys : List KeyEntry) (served : Served) (entries : List Entry) : Type 0 where
+pub record IsByKey (keys : List KeyEntry) (served : Served) (entries : List Entry) : Type 0 where
   pub known : Option (List ℕ)
   pub own : AreOwn known entries
   pub key : (name : List ℕ) → known ≡ Some name → HasShown keys served name
   pub none : known ≡ None → entries ≡ []
 
 -- each connection is so, by the entries of its lane
-abbrev pub IsShownWork : List KeyEntry → Work → List Entry → Type 0
-IsShownWork keys (visit served course) entries = IsShown keys served entries
-IsShownWork keys (beat waited course) entries = Unit {0}
-IsShownWork keys (drive driver calls waited course) entries = Unit {0}
+abbrev pub IsByKeyWork : List KeyEntry → Work → List Entry → Type 0
+IsByKeyWork keys (visit served course) entries = IsByKey keys served entries
+IsByKeyWork keys (beat waited course) entries = Unit {0}
+IsByKeyWork keys (drive driver calls waited course) entries = Unit {0}
 
-abbrev pub AreShown : List Actuator → List KeyEntry → List Entry → List Work → Type 0
-AreShown plant keys entries works = AllByRecursion (λ work. IsShownWork keys work (done_in plant (lane_of_work work) entries)) works
+abbrev pub AreByKeys : List Actuator → List KeyEntry → List Entry → List Work → Type 0
+AreByKeys plant keys entries works = AllByRecursion (λ work. IsByKeyWork keys work (done_in plant (lane_of_work work) entries)) works
