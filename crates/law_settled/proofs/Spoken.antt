@@ -162,8 +162,8 @@ apart-visit catalogue gates keys tells served course entries (inl talks) =
     subst (AllByRecursion IsApart) (sym talks.exchanged.all_entries)
     (each-append IsApart (deeds_in served.session talks.exchanged.talk) _ (apart-talk catalogue keys served.session beginning talks.exchanged.talk talks.exchanged.leaves.reads)
     (apart-parting served.session _ talks.exchanged.parting))
-apart-visit catalogue gates keys tells served course entries (inr watches) =
-    subst (AllByRecursion IsApart) (sym watches.noticed.all_entries) (apart-watched served.session watches.name watches.from watches.noticed.turns)
+apart-visit catalogue gates keys tells served course entries (inr watched) =
+    subst (AllByRecursion IsApart) (sym watched.noticed.all_entries) (apart-watched served.session watched.name watched.from watched.noticed.turns)
 
 -- ---- a history of which each connection agrees with its entries
 
