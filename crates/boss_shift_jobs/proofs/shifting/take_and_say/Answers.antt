@@ -1,8 +1,9 @@
-use Rattle.std.proofs.Common.{◌≡◌, ℕ, ◌+◌, ap, subst, ◌∙◌}
+use Rattle.std.proofs.Common.{◌≡◌, ℕ, ◌+◌, sym, ap, subst, ◌∙◌}
 use Rattle.boss_disk_pair.specs.Rests.{counted}
 use Rattle.boss_durable.specs.Followed.{lasts_after, may_last, Takes}
 use Rattle.boss_durable.specs.Words.{lasting, leaves, passes}
 use Rattle.boss_model.specs.Seen.{seen}
+use Rattle.boss_model.specs.Sound.{IsSoundPersistent}
 use Rattle.boss_model.specs.State.{Persistent}
 use Rattle.law_shift.specs.Shifted.{shifted}
 use Rattle.law_shift.proofs.ShiftedSound.{shifted-sound}
@@ -36,3 +37,14 @@ returns-clause-moves g c told =
     taken-moves g.D.Disk c.args.catalogue.now durable c.requires.plant c.requires.digest c.requires.keeps c.requires.leaves c.args.by
     call.new.self c.close.result call.result c.close.ensures.disks told
     (λ events kept. subst (λ e. passes durable call.new.self (lasting durable) (may_last call.result (lasting durable) e)) state (call.ensures.passes events kept))
+
+-- a sound state stays sound
+pub say_taken-status-requires-clause-sound : goal.say_taken-status-requires-clause-sound
+say_taken-status-requires-clause-sound g c is =
+    let durable = c.args.durable in
+    let call = c.take_state-taken in
+    let to = shifted c.args.by (lasting durable) in
+    let state : seen c.shift_state-shifted.result ≡ to = c.shift_state-shifted.ensures ∙ ap (shifted c.args.by) c.requires.kept in
+    let refused : (¬ IsSoundPersistent durable.engine.plant (seen c.shift_state-shifted.result)) × (call.new.self ≡ durable) =
+    subst (λ taken. Takes durable call.new.self (seen c.shift_state-shifted.result) c.one_more-events.result taken) is call.ensures.takes in
+    refused.0 (subst (IsSoundPersistent durable.engine.plant) (sym state) (shifted-sound c.args.by durable.engine.plant (lasting durable) c.requires.may c.requires.sound))
