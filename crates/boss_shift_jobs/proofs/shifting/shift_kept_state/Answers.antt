@@ -1,4 +1,4 @@
-use Rattle.std.proofs.Common.{◌≡◌, ℕ, ◌≤◌, refl, sym, subst, arith}
+use Rattle.std.proofs.Common.{ℕ, ◌≤◌, refl, sym, subst, arith}
 use Rattle.boss_durable.specs.Words.{lasting}
 use Rattle.law_shift.specs.Shifted.{MayShift}
 use Rattle.boss_shift_jobs.proofs.Coming.{too-far-so}
