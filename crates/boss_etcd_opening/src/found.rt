@@ -127,7 +127,7 @@ fn all_digits(text: &str) -> bool
 
 /// A text that is a revision.
 fn numbered<'a>(text: Option<&'a str>) -> Option<&'a str>
-    ensures same { IfSome result (λ revision. option_map (λ text. text.now) text ≡ Some revision.now) }
+    ensures same { IfSome result (λ revision. option_map (λ text. text.now) text.entry ≡ Some revision.now) }
     ensures digits { IfSome result (λ revision. is_revision revision.now ≡ true) }
 {
     match text {

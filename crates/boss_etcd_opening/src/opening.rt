@@ -111,25 +111,25 @@ fn open_empty<L: Link>(
     }
 }
 
-/// What is found where the head has this revision and tells this length.
+/// What is found where the head has this revision and tells this size.
 fn open_full<L: Link>(
     alloc: Global,
     members: &mut Members<L>,
     name: &[u8],
-    length: u64,
+    size: u64,
     revision: Items<u8>,
     at: &Items<u8>,
 ) -> Result<Opened, OpenFault>
     ensures { IfOk result (λ opened. length opened.bytes.items ≤ 2 ^ 40) }
 {
     let owner = Items::from_vec(revision.slice().to_vec(alloc)?);
-    let bytes = find_pages(alloc, members, name, at.slice(), length)?;
+    let bytes = find_pages(alloc, members, name, at.slice(), size)?;
     Ok(Opened {
         head: Head {
             revision,
             owner,
             number: 0,
-            length,
+            length: size,
         },
         bytes,
     })
@@ -176,27 +176,27 @@ fn ask_head<L: Link>(
     found
 }
 
-/// All pages of a name at this revision, where they come to this length.
+/// All pages of a name at this revision, where they come to this size.
 fn find_pages<L: Link>(
     alloc: Global,
     members: &mut Members<L>,
     name: &[u8],
     at: &[u8],
-    length: u64,
+    size: u64,
 ) -> Result<Vec<u8>, OpenFault>
     ensures { IfOk result (λ bytes. length bytes.items ≤ 2 ^ 40) }
 {
     let mut bytes = Vec::new(alloc);
-    if length > MOST {
+    if size > MOST {
         return Err(OpenFault::Damaged);
     }
     for _ in 0..MOST_READS {
         let count = find_more(alloc, members, name, at, &mut bytes)?;
-        if count < MOST_PAGES || bytes.len() as u64 > length {
+        if count < MOST_PAGES || bytes.len() as u64 > size {
             break;
         }
     }
-    if bytes.len() as u64 != length {
+    if bytes.len() as u64 != size {
         return Err(OpenFault::Damaged);
     }
     Ok(bytes)
