@@ -1,11 +1,23 @@
-use Rattle.std.proofs.Common.{◌≡◌, inl, inr, ℕ, List, [], ◌∷◌, ◌++◌, Some, Ok, refl, subst, ◌∙◌, vec_len, rules}
+use Rattle.std.proofs.Common.{◌≡◌, ◌⊎◌, inl, inr, ℕ, List, [], ◌∷◌, ◌++◌, Some, Ok, refl, subst, ◌∙◌, vec_len, rules}
 use Rattle.boss_access.specs.Lines.{refusal_line as rules_refusal_line}
 use Rattle.boss_keys.specs.Lines.{refusal_line as keys_refusal_line}
 use Rattle.boss_plans.specs.Lines.{refusal_line as plan_refusal_line}
 use Rattle.boss_jobs.specs.Programs.{usable}
 use Rattle.boss_serve_jobs.specs.Preparing.{listed, reading, setting}
-use Rattle.boss_serve_jobs.proofs.PreparingLemmas.{all-then-front, all-then-more, front-of-more, keyed-before, keys-refused-before, none-then, plan-refused-before, refused-then, ruled-before, rules-refused-before}
+use Rattle.boss_serve_jobs.proofs.PreparingLemmas.{all-then-front, all-then-more, front-of-more, keyed-before, keys-refused-before, maybe-asked, none-then, plan-refused-before, refused-then, ruled-before, rules-refused-before}
 use Rattle.boss_serve_jobs.proofs.preparing.prepare.Goals as goal
+
+-- ---- no memory for the catalogue
+
+pub returns-in-Err-NoMemory-clause-asks : goal.returns-in-Err-NoMemory-clause-asks
+returns-in-Err-NoMemory-clause-asks g c tells =
+    let old = g.F.Files.asked c.args.files.now in
+    let new = g.F.Files.asked c.load.new.files in
+    let asked : (new ≡ old) ⊎ (new ≡ old ++ c.args.name.now ∷ []) = rw c.in-Err-NoMemory.field-0-is at (c.in-Err-NoMemory.ensures.asks tells) in
+    let one = maybe-asked (Some c.args.name.now) c.args.name.now old new refl asked in
+    let ruled = front-of-more (c.args.name.now ∷ []) (listed c.args.rules.now) old new one in
+    let keyed = front-of-more (c.args.name.now ∷ listed c.args.rules.now) (listed c.args.keys.now) old new ruled in
+    front-of-more (c.args.name.now ∷ listed c.args.rules.now ++ listed c.args.keys.now) (listed c.args.plan.now) old new keyed
 
 -- ---- the rules were refused, or not to be had
 
@@ -105,3 +117,12 @@ returns-in-Err-take_plan-clause-prepares g c =
         ends = refused-then f k old mid new mid new c.in-Err-take_plan.status.0 refl refl refl refl refused.2.devices fine untold (plan_refusal_line c.in-Ok.catalogue refused.0) 17 refused.2;
       }))))
     ]
+
+pub returns-in-Err-take_plan-clause-asks : goal.returns-in-Err-take_plan-clause-asks
+returns-in-Err-take_plan-clause-asks g c tells =
+    let f = g.F.Files in
+    let old = f.asked c.args.files.now in
+    let between = f.asked c.take_keys.new.files in
+    let ruled = all-then-more (c.args.name.now ∷ []) (listed c.args.rules.now) old (f.asked c.load.new.files) (f.asked c.take_rules.new.files) (c.in-Ok.ensures.asks tells) (c.in-Ok-take_rules.ensures.asks tells) in
+    let keyed = all-then-more (c.args.name.now ∷ listed c.args.rules.now) (listed c.args.keys.now) old (f.asked c.take_rules.new.files) between ruled (c.in-Ok-take_keys.ensures.asks tells) in
+    all-then-front (c.args.name.now ∷ listed c.args.rules.now ++ listed c.args.keys.now) (listed c.args.plan.now) old between (f.asked c.take_plan.new.files) keyed (c.in-Err-take_plan.ensures.asks tells)
