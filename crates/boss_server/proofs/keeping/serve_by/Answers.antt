@@ -31,7 +31,7 @@ returns-in-Ok-told-clause-ran g c =
     (g.C.Clock.given c.args.outside.now.clock.now) (g.C.Clock.given c.serve_behind-pass.new.outside.clock.now) (hosted_at g.H.Host c.args.outside.now.host.now) (hosted_at g.H.Host c.serve_behind-pass.new.outside.host.now)
     (g.C.Clock.faults c.args.outside.now.clock.now) (g.C.Clock.faults c.serve_behind-pass.new.outside.clock.now) (g.W.Waiter.waits c.args.outside.now.waiter.now) (g.W.Waiter.waits c.serve_behind-pass.new.outside.waiter.now)
     (take c.drives_for-drives.result c.args.outside.now.devices.now.items) (drop c.drives_for-drives.result c.args.outside.now.devices.now.items) c.serve_behind-pass.new.outside.devices.now.items
-    c.in-Ok-told.flags c.in-Ok-told.unstarted c.has_stopped.result g.K.Keeper c.args.keeper c.close-keeper.result (entries_at pass.seen pass.places) whole (rw (c.in-Ok-told.is, c.server_at-server.ensures.desk, c.server_at-server.ensures.catalogue, c.server_at-server.ensures.keys, c.server_at-server.ensures.workers) at c.serve_behind-pass.ensures.account) held c.has_stopped.ensures)
+    c.in-Ok-told.flags c.in-Ok-told.unstarted c.has_stopped.result g.K.Keeper c.args.keeper c.close-keeper.result (entries_at pass.seen pass.places) whole (rw (c.in-Ok-told.is, c.server_at-server.ensures.catalogue, c.server_at-server.ensures.keys, c.server_at-server.ensures.workers) at c.serve_behind-pass.ensures.account) held c.has_stopped.ensures)
 
 pub returns-in-Err-told-clause-nothing : goal.returns-in-Err-told-clause-nothing
 returns-in-Err-told-clause-nothing g c =
