@@ -1,5 +1,5 @@
 -- What is said of a server over a journal on two disks is said of one over its two files.
-use Rattle.std.proofs.Common.{inl, inr, ℕ, ◌≡◌, List, subst}
+use Rattle.std.proofs.Common.{Option, inl, inr, ℕ, ◌≡◌, List, subst}
 use Rattle.boss_model.specs.Catalogue.{Catalogue, actuators}
 use Rattle.boss_model.specs.State.{State}
 use Rattle.boss_outside.specs.declared.actuators.Actuators as actuators_of
