@@ -37,13 +37,13 @@ pub fn open_placed<R: Net<Listener = TcpListener, Stream = TcpStream> + Clock + 
     let copy = String::from_str(alloc, word)?;
     let mut members = Members::new(alloc, EtcdLink::new(rt), place.members);
     match open(alloc, &mut members, name.slice()) {
-        Ok(opened) => Ok(placed(alloc, rt, copy, members, name, opened)),
+        Ok(opened) => Ok(disk_of(alloc, rt, copy, members, name, opened)),
         Err(fault) => Err(say_fault(&rt, word, name.slice(), &members, fault)),
     }
 }
 
 /// The disk of what was found.
-fn placed<R: Net<Listener = TcpListener, Stream = TcpStream> + Clock + Eprint + Copy>(
+fn disk_of<R: Net<Listener = TcpListener, Stream = TcpStream> + Clock + Eprint + Copy>(
     alloc: Global,
     rt: R,
     word: String,
