@@ -46,8 +46,8 @@ const LONGEST_MEMBER: usize = 260;
 /// nothing, the next connection is made after a pause, which grows; ten seconds after the first such answer connecting fails at once. The first is
 /// said on the standard error, and once more when a member answers again.
 #[derive(Drop)]
-pub struct EtcdLink<R> {
-    rt: R,
+pub struct EtcdLink {
+    rt: HostRuntime,
     connection: Option<Connection>,
     /// The word of the member that was connected to last.
     member: ArrayVec<u8, LONGEST_MEMBER>,
@@ -78,9 +78,9 @@ struct Gap {
     missed: u32,
 }
 
-impl<R: Net<Listener = TcpListener, Stream = TcpStream> + Clock + Eprint + Copy> EtcdLink<R> {
+impl EtcdLink {
     /// A link that is not connected. `rt` is what connects it, and what lines are written by.
-    pub fn new(rt: R) -> EtcdLink<R>
+    pub fn new(rt: HostRuntime) -> EtcdLink
         ensures { result.faults ≡ 0 }
     {
         EtcdLink {
@@ -281,7 +281,7 @@ impl<R: Net<Listener = TcpListener, Stream = TcpStream> + Clock + Eprint + Copy>
 }
 
 /// The milliseconds since then.
-fn passed_since<R: Clock>(rt: &R, since: &Instant) -> u64 {
+fn passed_since(rt: &HostRuntime, since: &Instant) -> u64 {
     match since.elapsed(rt) {
         Ok(passed) => u64::try_from(passed.as_millis()).unwrap_or(u64::MAX),
         Err(_) => u64::MAX,
@@ -306,8 +306,7 @@ fn is_fresh(stream: &TcpStream) -> bool {
     stream.set_nonblocking(false).is_ok() && is_quiet
 }
 
-impl<R: Net<Listener = TcpListener, Stream = TcpStream> + Clock + Eprint + Copy> Link
-    for EtcdLink<R> {
+impl Link for EtcdLink {
     ghost tells = { ⊥ };
 
     ghost sent = { λ link. [] };

@@ -15,20 +15,20 @@ use std::time::Clock;
 
 /// A file of this machine, or one in etcd, as a disk.
 #[derive(Drop)]
-pub struct PlacedDisk<R: Net<Listener = TcpListener, Stream = TcpStream> + Clock + Eprint + Copy> {
-    kept: Kept<R>,
+pub struct PlacedDisk {
+    kept: Kept,
     faults: u64,
 }
 
 #[derive(Drop)]
-enum Kept<R: Net<Listener = TcpListener, Stream = TcpStream> + Clock + Eprint + Copy> {
+enum Kept {
     File(RealDisk),
-    Etcd(ClusterDisk<ToldCluster<R>>),
+    Etcd(ClusterDisk<ToldCluster>),
 }
 
-impl<R: Net<Listener = TcpListener, Stream = TcpStream> + Clock + Eprint + Copy> PlacedDisk<R> {
+impl PlacedDisk {
     /// A file of this machine.
-    pub fn file(disk: RealDisk) -> PlacedDisk<R>
+    pub fn file(disk: RealDisk) -> PlacedDisk
         ensures { result.faults ≡ 0 }
     {
         PlacedDisk {
@@ -38,7 +38,7 @@ impl<R: Net<Listener = TcpListener, Stream = TcpStream> + Clock + Eprint + Copy>
     }
 
     /// One in etcd.
-    pub fn etcd(disk: ClusterDisk<ToldCluster<R>>) -> PlacedDisk<R>
+    pub fn etcd(disk: ClusterDisk<ToldCluster>) -> PlacedDisk
         ensures { result.faults ≡ 0 }
     {
         PlacedDisk {
@@ -62,8 +62,7 @@ impl<R: Net<Listener = TcpListener, Stream = TcpStream> + Clock + Eprint + Copy>
     }
 }
 
-impl<R: Net<Listener = TcpListener, Stream = TcpStream> + Clock + Eprint + Copy> Disk
-    for PlacedDisk<R> {
+impl Disk for PlacedDisk {
     ghost tells = { ⊥ };
 
     ghost reads = { λ disk. [] };

@@ -17,17 +17,17 @@ use std::time::Clock;
 /// The files of this machine, each under its name, but for a journal whose word begins with `etcd:`, which is kept there. A call that fails
 /// says why on the standard error.
 #[derive(Drop)]
-pub struct PlacedFiles<R> {
-    rt: R,
+pub struct PlacedFiles {
+    rt: HostRuntime,
     files: RealFiles,
     /// A disk that was opened in etcd has a head there.
     has_head: bool,
     faults: u64,
 }
 
-impl<R: Net<Listener = TcpListener, Stream = TcpStream> + Clock + Eprint + Copy> PlacedFiles<R> {
+impl PlacedFiles {
     /// These files of this machine, and journals in etcd, to whose members `rt` connects. No call has failed yet.
-    pub fn new(files: RealFiles, rt: R) -> PlacedFiles<R>
+    pub fn new(files: RealFiles, rt: HostRuntime) -> PlacedFiles
         ensures { result.faults ≡ 0 }
     {
         PlacedFiles {
@@ -61,7 +61,7 @@ impl<R: Net<Listener = TcpListener, Stream = TcpStream> + Clock + Eprint + Copy>
     }
 
     /// A file of this machine.
-    fn open_file(&mut self, alloc: Global, name: &str) -> Result<PlacedDisk<R>, FileFault>
+    fn open_file(&mut self, alloc: Global, name: &str) -> Result<PlacedDisk, FileFault>
         ensures faults { self.new.faults ≡ self.old.faults }
         ensures fresh { IfOk result (λ disk. disk.faults ≡ 0) }
     {
@@ -70,7 +70,7 @@ impl<R: Net<Listener = TcpListener, Stream = TcpStream> + Clock + Eprint + Copy>
     }
 
     /// One in etcd.
-    fn open_place(&mut self, alloc: Global, word: &str) -> Result<PlacedDisk<R>, FileFault>
+    fn open_place(&mut self, alloc: Global, word: &str) -> Result<PlacedDisk, FileFault>
         ensures faults { self.new.faults ≡ self.old.faults }
         ensures fresh { IfOk result (λ disk. disk.faults ≡ 0) }
     {
@@ -84,9 +84,8 @@ impl<R: Net<Listener = TcpListener, Stream = TcpStream> + Clock + Eprint + Copy>
     }
 }
 
-impl<R: Net<Listener = TcpListener, Stream = TcpStream> + Clock + Eprint + Copy> Files
-    for PlacedFiles<R> {
-    type Store = PlacedDisk<R>;
+impl Files for PlacedFiles {
+    type Store = PlacedDisk;
 
     ghost tells = { ⊥ };
 
@@ -107,7 +106,7 @@ impl<R: Net<Listener = TcpListener, Stream = TcpStream> + Clock + Eprint + Copy>
         }
     }
 
-    fn disk(&mut self, alloc: Global, name: &str) -> Result<PlacedDisk<R>, FileFault> {
+    fn disk(&mut self, alloc: Global, name: &str) -> Result<PlacedDisk, FileFault> {
         let opened = if is_place(name.as_bytes()) {
             self.open_place(alloc, name)
         } else {
@@ -119,7 +118,7 @@ impl<R: Net<Listener = TcpListener, Stream = TcpStream> + Clock + Eprint + Copy>
         }
     }
 
-    fn close(&mut self, _name: &str, store: PlacedDisk<R>) {
+    fn close(&mut self, _name: &str, store: PlacedDisk) {
         if store.faults() > 0 {
             self.count_fault();
         }

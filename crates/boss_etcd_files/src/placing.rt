@@ -21,18 +21,18 @@ const OPENED: &str = "opened";
 
 /// A disk in etcd, and whether it had a head.
 #[derive(Drop)]
-pub struct Placed<R: Net<Listener = TcpListener, Stream = TcpStream> + Clock + Eprint + Copy> {
-    pub disk: ClusterDisk<ToldCluster<R>>,
+pub struct Placed {
+    pub disk: ClusterDisk<ToldCluster>,
     pub has_head: bool,
 }
 
 /// The disk at this place, whose word is this. Where it can't be opened the reason is said.
-pub fn open_placed<R: Net<Listener = TcpListener, Stream = TcpStream> + Clock + Eprint + Copy>(
+pub fn open_placed(
     alloc: Global,
-    rt: R,
+    rt: HostRuntime,
     word: &str,
     place: Place,
-) -> Result<Placed<R>, FileFault> {
+) -> Result<Placed, FileFault> {
     let name = place.key(alloc)?;
     let copy = String::from_str(alloc, word)?;
     let mut members = Members::new(alloc, EtcdLink::new(rt), place.members);
@@ -43,14 +43,14 @@ pub fn open_placed<R: Net<Listener = TcpListener, Stream = TcpStream> + Clock + 
 }
 
 /// The disk of what was found.
-fn disk_of<R: Net<Listener = TcpListener, Stream = TcpStream> + Clock + Eprint + Copy>(
+fn disk_of(
     alloc: Global,
-    rt: R,
+    rt: HostRuntime,
     word: String,
-    members: Members<EtcdLink<R>>,
+    members: Members<EtcdLink>,
     name: Items<u8>,
     opened: Opened,
-) -> Placed<R>
+) -> Placed
     requires { length opened.bytes.items ≤ 2 ^ 40 }
 {
     let has_head = opened.head.revision.slice() != b"0".as_slice();
@@ -62,11 +62,11 @@ fn disk_of<R: Net<Listener = TcpListener, Stream = TcpStream> + Clock + Eprint +
 }
 
 /// Says why nothing was opened. Want of memory is no fault of the files, and is not said.
-fn say_fault<R: Net<Listener = TcpListener, Stream = TcpStream> + Clock + Eprint + Copy>(
-    rt: &R,
+fn say_fault(
+    rt: &HostRuntime,
     word: &str,
     name: &[u8],
-    members: &Members<EtcdLink<R>>,
+    members: &Members<EtcdLink>,
     fault: OpenFault,
 ) -> FileFault {
     let name = str::from_utf8(name).unwrap_or("its name");
@@ -90,7 +90,7 @@ fn say_fault<R: Net<Listener = TcpListener, Stream = TcpStream> + Clock + Eprint
 }
 
 /// Says that a word means no place in etcd.
-pub fn say_wrong<R: Eprint>(rt: &R, word: &str) {
+pub fn say_wrong(rt: &HostRuntime, word: &str) {
     say_of(
         rt,
         word,

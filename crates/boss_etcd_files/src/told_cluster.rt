@@ -15,17 +15,17 @@ use std::time::Clock;
 
 /// Bytes that etcd keeps. The first commit that is not answered as done is said on the standard error, with the reason.
 #[derive(Drop)]
-pub struct ToldCluster<R> {
-    rt: R,
+pub struct ToldCluster {
+    rt: HostRuntime,
     /// The word of the journal's file.
     word: String,
-    cluster: EtcdCluster<EtcdLink<R>>,
+    cluster: EtcdCluster<EtcdLink>,
     is_said: bool,
 }
 
-impl<R: Net<Listener = TcpListener, Stream = TcpStream> + Clock + Eprint + Copy> ToldCluster<R> {
+impl ToldCluster {
     /// The cluster of a journal's file that has this word. `rt` is what lines are written by.
-    pub fn new(rt: R, word: String, cluster: EtcdCluster<EtcdLink<R>>) -> ToldCluster<R> {
+    pub fn new(rt: HostRuntime, word: String, cluster: EtcdCluster<EtcdLink>) -> ToldCluster {
         ToldCluster {
             rt,
             word,
@@ -59,9 +59,12 @@ impl<R: Net<Listener = TcpListener, Stream = TcpStream> + Clock + Eprint + Copy>
 }
 
 /// Says what could not be done with a journal's file, since no member of etcd did it.
-pub(crate) fn say_unanswered<
-    R: Net<Listener = TcpListener, Stream = TcpStream> + Clock + Eprint + Copy,
->(rt: &R, word: &str, call: &str, members: &Members<EtcdLink<R>>) {
+pub(crate) fn say_unanswered(
+    rt: &HostRuntime,
+    word: &str,
+    call: &str,
+    members: &Members<EtcdLink>,
+) {
     match (advice_for(members.content()), members.link().reason()) {
         (Some(advice), _) => say_of(rt, word, call, advice),
         (None, Some(reason)) => say_of(
@@ -75,15 +78,14 @@ pub(crate) fn say_unanswered<
 }
 
 /// Says what could not be done with a journal's file, and why.
-pub(crate) fn say_of<R: Eprint, D: Display + Drop>(rt: &R, word: &str, call: &str, reason: D) {
+pub(crate) fn say_of<D: Display + Drop>(rt: &HostRuntime, word: &str, call: &str, reason: D) {
     say_aside(
         rt,
         format_args!("the journal {word} could not be {call}: {reason}"),
     );
 }
 
-impl<R: Net<Listener = TcpListener, Stream = TcpStream> + Clock + Eprint + Copy> Cluster
-    for ToldCluster<R> {
+impl Cluster for ToldCluster {
     ghost tells = { ⊥ };
 
     ghost contents = { λ cluster. [] };

@@ -46,7 +46,7 @@ where
     let mut devices = field_devices(rt.alloc(), server, MOST_DRIVERS)?;
     let mut source = StdSource::new(rt.stdin());
     let mut sink = StdSink::new(rt.stdout());
-    let mut files = PlacedFiles::new(RealFiles::new(rt), server);
+    let mut files = PlacedFiles::new(RealFiles::new(rt), rt);
     let mut clock = RealClock::new(rt.alloc(), server)?;
     let mut waiter = RealWaiter::new(rt.alloc(), server, &mut clock)?;
     let mut host = RealHost::new(rt.alloc(), server);
