@@ -363,7 +363,7 @@ def try_refused_files(folder: str) -> str:
 
 
 def try_order(folder: str) -> str:
-    """Of several faults the first decides: catalogue, rules, plan, keys, journal. A file that is not there ends it with 5 and names itself."""
+    """Of several faults the first decides: catalogue, rules, keys, plan, journal. A file that is not there ends it with 5 and names itself."""
     place = Place(folder)
     catalogue, rules, plan = place.write("bad.toml", ""), place.write("rules.toml", "rule = 0\n"), place.write("plan.toml", "driver = 0\n")
     bad, good, nowhere = place.write("keys.toml", "key = 0\n"), place.write("good.toml", ONE), os.path.join(place.folder, "nowhere.toml")
@@ -371,8 +371,10 @@ def try_order(folder: str) -> str:
     for what, ran, output, status, named in [
         ("a catalogue before keys", serve(place, "-", "-", bad, catalogue=catalogue), "catalogue missing drivers\n", 3, catalogue),
         ("rules before keys", serve(place, rules, "-", bad), "rules missing\n", 16, rules),
-        ("a plan before keys", serve(place, "-", plan, bad), "plan missing driver\n", 17, plan),
-        ("a plan before keys that are not there", serve(place, "-", plan, nowhere), "plan missing driver\n", 17, plan),
+        ("keys before a plan", serve(place, "-", plan, bad), "keys missing\n", REFUSED, bad),
+        ("keys that are not there before a plan", serve(place, "-", plan, nowhere), "", FAILED, nowhere),
+        ("a plan after keys", serve(place, "-", plan, good), "plan missing driver\n", 17, plan),
+        ("a plan before a journal", serve(place, "-", plan, good, journal=journal), "plan missing driver\n", 17, plan),
         ("keys before a journal", serve(place, "-", "-", bad, journal=journal), "keys missing\n", REFUSED, bad),
         ("a journal after keys", serve(place, "-", "-", good, journal=journal), "journal not-a-journal\n", 4, journal),
         ("keys that are not there", serve(place, "-", "-", nowhere), "", FAILED, nowhere),
@@ -383,7 +385,7 @@ def try_order(folder: str) -> str:
         see(ran[:2] == (output, status), f"{what}: {ran[0]!r} and status {ran[1]}, not {output!r} and {status}")
         see(named in ran[2] and "listening" not in ran[2], f"{what}: on the standard error stands {ran[2]!r}")
     see(not os.path.exists(place.journal), "a journal was made")
-    return "catalogue, rules, plan, keys, journal; a file that is not there is status 5"
+    return "catalogue, rules, keys, plan, journal; a file that is not there is status 5"
 
 
 # ---- all of it

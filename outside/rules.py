@@ -356,7 +356,7 @@ def refused_files() -> list[tuple[str | bytes, str]]:
         (ONE + ONE + "highest = 17\n" + ONE + "allow = 0\n", "bad-rule 2"),
         (ONE + '[[rule]]\npoint = "lamp"\n', "bad-rule 2"),
         ('[[rule]]\nprocess = "a"\n' + ONE, "bad-rule 1"),
-        *((ONE + more, "bad-rule 1") for more in ("highest = 0\n", "highest = -1\n", "highest = 8.0\n", "highest = true\n", 'highest = "8"\n',
+        *((ONE + more, "bad-rule 1") for more in ('note = "for people"\n', "highest = 0\n", "highest = -1\n", "highest = 8.0\n", "highest = true\n", 'highest = "8"\n',
                                                   'allow = "no"\n', "allow = 1\n")),
         *((ONE.replace('"lamp"', f'"{text}"'), "bad-rule 1")
           for text in ("", "Lamp", "la mp", "la*p", "**", "*.lamp", LONGEST + "nn", LONGEST + "n*")),
@@ -366,7 +366,7 @@ def refused_files() -> list[tuple[str | bytes, str]]:
 
 
 def accepted_files() -> list[str]:
-    return ["rule = []\n", ONE * 256, ONE + 'note = "for people"\n', 'title = "rules"\n' + ONE + "[other]\nx = 1\n",
+    return ["rule = []\n", ONE * 256, 'title = "rules"\n' + ONE + "[other]\nx = 1\n",
             *(ONE.replace('"a"', f'"{text}"') for text in ("*", "a*", LONGEST + "*", LONGEST + "n", "no.such-process_1")),
             ONE + "highest = 1\nallow = true\n", ONE + "highest = 16\nallow = false\n", "#" * (1_048_576 - len(ONE) - 1) + "\n" + ONE]
 

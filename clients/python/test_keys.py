@@ -23,7 +23,7 @@ from unittest import mock
 import bossd
 import bossd.aio
 from bossd import _keys
-from bossd.ctl import _lint, main
+from bossd.ctl import _elect, _lint, main
 
 KEY, OTHER, MASTER = (_keys.new_key() for _ in range(3))
 # For how long what has to come is waited for, in seconds; a busy machine takes its time.
@@ -279,6 +279,126 @@ class Clients(Case):
         self.assertRaises(bossd.Malformed, bossd.Client, "127.0.0.1:1", key=KEY, as_="No Name")
 
 
+def gone() -> str:
+    """An address at which nobody listens."""
+    with socket.create_server(("127.0.0.1", 0)) as taken:
+        return f"127.0.0.1:{taken.getsockname()[1]}"
+
+
+class SeveralAddresses(Case):
+    """A server with keys that may be at several addresses."""
+
+    def silent(self) -> str:
+        listener = socket.create_server(("127.0.0.1", 0))
+        self.addCleanup(listener.close)
+        return f"127.0.0.1:{listener.getsockname()[1]}"
+
+    def each(self, addresses: List[str], key: str) -> List[Callable[[], object]]:
+        """Each form of a client, as purge."""
+        async def ask() -> None:
+            async with bossd.aio.connect(",".join(addresses), "purge", key=key) as client:
+                await client.read("air.damper")
+
+        async def watch() -> None:
+            async with bossd.aio.watch(addresses, "purge", key=key) as watched:
+                async for _ in watched:
+                    return
+
+        def client() -> None:
+            with bossd.Client(addresses, "purge", key=key) as one:
+                one.read("air.damper")
+
+        def watching() -> None:
+            with bossd.watch(addresses, "purge", key=key) as watched:
+                next(watched)
+
+        return [client, watching, lambda: asyncio.run(ask()), lambda: asyncio.run(watch())]
+
+    def test_the_one_that_serves_is_shown_the_key(self) -> None:
+        server = self.server(("purge", KEY))
+        for run in self.each([gone(), server.address], KEY):
+            run()
+        self.assertEqual(server.shown, 4 * ["purge"])
+
+    def test_one_that_does_not_take_the_key_is_not_left_for_another_one(self) -> None:
+        server, other = self.server(("purge", KEY)), self.server(("purge", OTHER))
+        for run in self.each([server.address, other.address], OTHER):
+            self.assertRaises(bossd.WrongKey, run)
+        self.assertEqual((len(server.heard), other.heard), (4, []))
+
+    def test_a_silent_one_is_left_for_one_that_wants_a_key_which_is_not_shown_before(self) -> None:
+        for place in range(4):
+            server, silent = self.server(("purge", KEY)), self.silent()
+            with mock.patch("bossd._session.LOOK", 0.3), mock.patch("bossd._session.REACH", SECONDS):
+                self.each([silent, server.address], KEY)[place]()
+            question, shown = server.firsts()
+            self.assertEqual((question, shown["key"]), ({"op": "version"}, KEY))
+
+    def test_what_is_no_server_is_not_gone_to(self) -> None:
+        from bossd._addresses import is_answer
+        told = {b'{"error":"wrong-key"}\n': True, b'{"error":"stopped"}\n': True, b'{"error":"busy"}\n': False, b"": False, b"220 mail\n": False}
+        self.assertEqual({line: is_answer(line) for line in told}, told)
+
+
+class Watched(Case):
+    """The server that bossd-elected watches."""
+
+    def question(self, server: Keyed, key: Optional[str]) -> "_elect.Question":
+        own = None if key is None else _elect.OwnKey(_keys.key_in(self.file("elected.key", key), may_be_empty=True), "elected")
+        asked = _elect.Question(server.address, _elect.now(), own)
+        self.addCleanup(asked._drop)
+        return asked
+
+    def ask(self, question: "_elect.Question", server: Keyed, lines: int) -> None:
+        """Asks, until it was answered so many lines."""
+        def is_done() -> bool:
+            question.ask(_elect.now())
+            return sum(map(len, server.heard)) >= lines and not question._is_open
+        self.until(is_done)
+
+    def test_it_is_asked_with_a_key_over_a_connection_that_stays(self) -> None:
+        server = self.server(("elected", KEY))
+        question = self.question(server, KEY)
+        with mock.patch("bossd.ctl._elect.ASKED", 0.1):
+            self.ask(question, server, 3)
+        self.assertEqual([[json.loads(line) for line in lines] for lines in server.heard],
+                         [[{"op": "version", "as": "elected", "key": KEY}, {"op": "version"}, {"op": "version"}]])
+        self.assertEqual((question.has_answered, question.is_stopped), (True, False))
+
+    def test_one_that_stopped_says_so_to_whoever_has_a_key(self) -> None:
+        server = self.server(("elected", KEY))
+        question = self.question(server, KEY)
+        with mock.patch.dict(globals(), answer_of=lambda asked: {"error": "stopped"}):
+            self.ask(question, server, 1)
+        self.assertTrue(question.is_stopped)
+
+    def test_one_that_takes_no_key_is_alive(self) -> None:
+        server = self.server(("elected", KEY))
+        for key, words in ((None, "a key that is right:"), ("\n", "for elected:"), (OTHER, "for elected:")):
+            question, count, said = self.question(server, key), len(server.heard), io.StringIO()
+            with mock.patch("bossd.ctl._elect.ASKED", 0.1), contextlib.redirect_stderr(said):
+                self.ask(question, server, count + 3)
+            self.assertEqual((len(server.heard), question.has_answered, question.is_dead(_elect.now())), (count + 3, True, False))
+            self.assertEqual((said.getvalue().count("wants a key"), words in said.getvalue(), KEY in said.getvalue()), (1, True, False))
+
+    def test_the_environment_names_it(self) -> None:
+        path = self.file("elected.key", KEY)
+        with mock.patch.dict(os.environ, {"BOSSD_KEY": "", "BOSSD_AS": ""}):
+            self.assertIsNone(_elect.key_of())
+        with mock.patch.dict(os.environ, {"BOSSD_KEY": path, "BOSSD_AS": "elected"}):
+            own = _elect.key_of()
+            assert own is not None
+            self.assertEqual(json.loads(own.line()), {"op": "version", "as": "elected", "key": KEY})
+            os.remove(path)
+            self.assertEqual(json.loads(own.line()), {"op": "version"})
+            with self.assertRaises(_elect.Fault):
+                _elect.key_of()
+        with mock.patch.dict(os.environ, {"BOSSD_KEY": self.file("elected.key", KEY, 0o644), "BOSSD_AS": ""}):
+            with self.assertRaises(_elect.Fault) as caught:
+                _elect.key_of()
+        self.assertEqual((caught.exception.status, KEY in caught.exception.why), (2, False))
+
+
 class Secret(Case):
     """A key stands in no text that a program writes of what went wrong."""
 
@@ -465,6 +585,19 @@ class Terminal(Case):
         status, _, said = self.run_ctl("status", "--server", server.address, "--key", self.file("other.key", OTHER))
         self.assertEqual((status, "wrong-key: the server has no such key for bossctl" in said), (1, True))
         self.assertNotIn(OTHER, said)
+
+    def test_several_addresses(self) -> None:
+        server, nobody = self.server(("bossctl*", KEY)), gone()
+        where, path = f"{nobody},{server.address}", self.file("bossctl.key", KEY)
+        status, told, said = self.run_ctl("status", "--server", where, "--key", path)
+        self.assertEqual(status, 0, said)
+        self.assertIn(f"{server.address} answers", told.splitlines()[0])
+        self.assertEqual(told.splitlines()[1], f"{nobody} does not answer: nobody listens there: does bossd run?")
+        self.assertEqual(self.run_ctl("points", "--server", where, "--key", path)[0], 0)
+        self.assertEqual(set(server.shown), {"bossctl"})
+        for command in ("status", "points"):
+            status, told, said = self.run_ctl(command, "--server", where, "--key", self.file("other.key", OTHER))
+            self.assertEqual((status, told, "wrong-key: the server has no such key for bossctl" in said), (1, "", True))
 
     def test_a_name_of_its_own(self) -> None:
         server = self.server(("anna", KEY))

@@ -150,6 +150,19 @@ class Several(unittest.TestCase):
         with self.assertLogs("bossd", "WARNING"), self.assertRaises(bossd.UnknownHost):
             world.run(world.session(address=(HERE, THERE))._opening(None))
 
+    def test_who_refuses_serves(self):
+        # A connection that showed no right key is over, and the next one is to the same server.
+        for refusal, again in (({"error": "unknown-point"}, []), ({"error": "wrong-key"}, [None])):
+            world = World(REFUSED, None, refusal, *again, b"", None, {"ok": "version"})
+            session = world.session(address=(HERE, THERE))
+            with self.subTest(refusal), self.assertLogs("bossd", "WARNING"):
+                with self.assertRaises(bossd.Refused):
+                    world.run(session._asking({"op": "read", "point": "air.fan"}))
+                self.assertEqual(session.address, THERE)
+                world.run(session._asking({"op": "version"}))
+            # The round in which the first one failed was over, so the way back to that one is not waited for.
+            self.assertEqual((world.went, world.done.count("Pause")), ([HERE, THERE, *[THERE for _ in again], HERE], 0))
+
     def test_a_watch_goes_where_its_notices_come(self):
         world = World(None, Silence(), REFUSED, None, {"n": 1, "at": 5, "txn": 1, "kind": "done"})
         world.serving = [YONDER]

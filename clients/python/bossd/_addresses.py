@@ -9,7 +9,8 @@ Given = Union[str, Sequence[str]]
 # How long, in seconds, one of several may take for a connection, and for an answer before it is looked whether the server is at another one.
 REACH = 1.0
 LOOK = 2.0
-# What is asked where it is looked whether a server answers: every one does, whatever it thinks of it.
+# What is asked where it is looked whether a server answers: every one does, whatever it thinks of it. It shows no key, which nobody but
+# the server that is gone to is to see: one that wants a key serves too, and says so.
 QUESTION = line_of({"op": "version"})
 
 
@@ -36,7 +37,7 @@ def is_answer(line: bytes) -> bool:
     """Whether this came from a server that serves: a whole line, and not that all its workers are busy."""
     try:
         return heard(line).endswith(b"\n")
-    except ConnectionError:
+    except (ConnectionError, ValueError):
         return False
 
 

@@ -136,15 +136,16 @@ class Client(Session, Connection):
     """A connection for one control process, or, without one, for questions alone. It may be used by several threads.
 
     `address` is "host:port"; several of them, in a sequence or with commas between, where the server may be at any: the client goes to the
-    one that serves, and asks there again what another one did not answer. `patience` is for how many seconds a request is asked again, over new connections, until it is answered;
-    a server whose workers are all busy answers nothing until one is free, or closes the connection after ten seconds, so it should be
-    long: Busy is raised where it was over before. With `at_once` a server that nobody has started is not waited for. With `tls`, as
+    one that serves, and asks there again what another one did not answer. `patience` is for how many seconds a request is asked again, over
+    new connections, until it is answered; a server whose workers are all busy answers nothing until one is free, or closes the connection
+    after ten seconds, so it should be long: Busy is raised where it was over before. With `at_once` a server that nobody has started is not waited for. With `tls`, as
     `tls_context` makes one, the connection has TLS in it, for what stands before the server then; a host whose certificate is not trusted
     at first is not asked again. While a connection is gone the server takes the process for lost, as of its last request; when it was the
     server that was gone, leases are as they were.
 
     `key` is for a server that knows processes by keys: the key's text, or what gives it, as `key_in` makes it of a file. The first line of
-    each connection shows it. It is the process's own; one that only asks names whose it is by `as_`. A server without keys passes over both."""
+    each connection shows it, whichever address that is to. It is the process's own; one that only asks names whose it is by `as_`. A server
+    without keys passes over both. WrongKey of one address is what all would say, so no other one is asked."""
 
     def __init__(self, address: Given, process: Optional[str] = None, patience: float = 60.0, *, at_once: bool = False,
                  tls: Optional[ssl.SSLContext] = None, key: Optional[Key] = None, as_: Optional[str] = None) -> None:

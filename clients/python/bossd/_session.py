@@ -361,6 +361,10 @@ class Session(Speaking):
                 if not self._met and self._addresses.have_all_failed(self._is_hopeless):
                     self._give_up(request, why)
                 self._tell_lost(error)
+            except Refused:
+                # Whoever refuses serves, also where it does not take the key.
+                self._addresses.answered()
+                raise
             if lost and (self._closed or self._now + PAUSE > deadline):
                 self._give_up(request, why)
             if isinstance(why, Taken) or not self._addresses.go_on():

@@ -4,12 +4,15 @@ The lock is that of `etcdctl lock`: keys under one name, each kept by a lease, o
 second whether the lock is still there, and the server once a second whether it answers. A server whose lock was not found within the last second is
 stopped (SIGSTOP) until it is found again, so that it gives no answer that may be out of date; one whose lock is gone, whose journal another
 one took over or it can't change any more, or that hangs, is killed. Changes need none of this: a server that lost its journal can acknowledge
-none."""
+none.
+
+A server that has keys is asked with the key of BOSSD_KEY. To whoever shows none it says no more than that it is there."""
 
 import base64
 import contextlib
 import http.client
 import json
+import os
 import random
 import re
 import shutil
@@ -21,11 +24,13 @@ import time
 from typing import Any, Iterator, NamedTuple, Optional, Sequence, Tuple
 
 from .._addresses import QUESTION
-from .._protocol import PARTING, host_and_port
+from .._keys import KeyRefused, Source, key_in, shown_in
+from .._protocol import host_and_port, is_name
+from ._live import NAMES
 from ._program import ENDING, Fault, not_started, status_of
 
 USAGE, GONE, KILLED = 2, 1, 137
-SHOWN = "say what serves: bossd-elected PROGRAM .. serve CATALOGUE etcd:HOST:PORT[,HOST:PORT..]/NAME ADDRESS WORKERS CONNECTIONS [RULES [PLAN]]"
+SHOWN = "say what serves: bossd-elected PROGRAM .. serve CATALOGUE etcd:HOST:PORT[,HOST:PORT..]/NAME ADDRESS WORKERS CONNECTIONS [RULES [PLAN [KEYS]]]"
 WORD = re.compile(r"etcd:([A-Za-z0-9._:,\[\]-]+)/([A-Za-z0-9._-]{1,64})")
 # The lease of the lock, in seconds: so long after its machine is gone another one has it.
 LEASE = 5
@@ -50,9 +55,9 @@ def elect(words: Sequence[str]) -> int:
     """Serves once this machine is elected, up to the server's end; the status to end with."""
     ENDING.by({signal.SIGHUP: 0, signal.SIGINT: 0, signal.SIGTERM: 0})
     try:
-        given = words_of(words)
+        given, key = words_of(words), key_of()
         with locked(given) as members:
-            return Watcher(given, members).run()
+            return Watcher(given, members, key).run()
     except Fault as fault:
         say(fault.why)
         return fault.status
@@ -78,6 +83,34 @@ def words_of(words: Sequence[str]) -> Words:
     except ValueError as error:
         raise Fault(USAGE, str(error)) from error
     return Words(tuple(words), members, found[2], address)
+
+
+class OwnKey(NamedTuple):
+    """A key that is shown to the server, and whose it is."""
+    key: Source
+    name: str
+
+    def line(self) -> bytes:
+        """What the server is asked first; without the key where it can't be read just now."""
+        with contextlib.suppress(OSError):
+            key = self.key()
+            return shown_in(QUESTION, key, self.name) if key else QUESTION
+        return QUESTION
+
+
+def key_of() -> Optional[OwnKey]:
+    """The key that the environment names; None where it names none. Fault."""
+    path, name = os.environ.get("BOSSD_KEY"), os.environ.get("BOSSD_AS") or NAMES[0]
+    if not path:
+        return None
+    if not is_name(name):
+        raise Fault(USAGE, f"BOSSD_AS in the environment is no name of a process: {name}")
+    try:
+        return OwnKey(key_in(path, may_be_empty=True), name)
+    except KeyRefused as error:
+        raise Fault(USAGE, str(error)) from error
+    except OSError as error:
+        raise Fault(USAGE, f"{path}: {error.strerror or error}") from error
 
 
 # ---- the lock
@@ -203,13 +236,16 @@ def spelled(key: str) -> str:
 
 
 class Question:
-    """Asks the server over one connection, which stays, so that it has its worker: once a second, and never waits."""
+    """Asks the server over one connection, which stays, so that it has its worker: once a second, and never waits. One that has keys ends the
+    connection of whoever shows none that is right, which is a sign of life too."""
 
-    def __init__(self, address: str, now: float) -> None:
-        self._where = host_and_port(address)
+    def __init__(self, address: str, now: float, key: Optional[OwnKey] = None) -> None:
+        self._where, self._key = host_and_port(address), key
         self._link: Optional[socket.socket] = None
         # When it was asked last, and is it unanswered; whether this connection has a worker; when there was the last sign of life.
         self._asked, self._is_open, self._is_served, self._well = now - ASKED, False, False, now
+        # Whether this connection has said a line, and whether it was said that the server takes no key of this one.
+        self._has_spoken, self._is_told = False, False
         self.has_answered, self.is_stopped = False, False
 
     def ask(self, now: float) -> None:
@@ -217,12 +253,12 @@ class Question:
             if self._link is None:
                 self._link = socket.create_connection(self._where, timeout=EACH)
                 self._link.setblocking(False)
-                self._is_open, self._is_served = False, False
+                self._is_open, self._is_served, self._has_spoken = False, False, False
             if self._is_open:
                 self._hear(now)
             elif now >= self._asked + ASKED:
-                self._link.sendall(QUESTION)
-                self._asked, self._is_open = now, True
+                self._link.sendall(QUESTION if self._has_spoken or self._key is None else self._key.line())
+                self._asked, self._is_open, self._has_spoken = now, True, True
         except BlockingIOError:
             pass
         except OSError:
@@ -246,7 +282,17 @@ class Question:
         if data.endswith(b"\n"):
             self._is_open = False
             self.is_stopped = b'"stopped"' in data
-            self._is_served = self.has_answered = b'"busy"' not in data
+            self._is_served = b'"busy"' not in data
+            self.has_answered = self.has_answered or self._is_served
+            if b'"wrong-key"' in data:
+                self._tell_no_key()
+                self._drop()
+
+    def _tell_no_key(self) -> None:
+        if not self._is_told:
+            self._is_told = True
+            say("the server wants a key that is right" + ("" if self._key is None else f" for {self._key.name}")
+                + ": until it is shown one nobody sees here that it answers `stopped`")
 
     def _drop(self) -> None:
         if self._link is not None:
@@ -262,8 +308,8 @@ def now() -> float:
 class Watcher:
     """Runs the server, and lets it go on only as long as it may."""
 
-    def __init__(self, words: Words, members: Members) -> None:
-        self.words, self.members = words, members
+    def __init__(self, words: Words, members: Members, key: Optional[OwnKey] = None) -> None:
+        self.words, self.members, self.key = words, members, key
         self.owner: Optional[str] = None
         self.is_stopped = False
 
@@ -284,7 +330,7 @@ class Watcher:
         self.process.wait()
 
     def _keep(self, found: float) -> int:
-        question, kept = Question(self.words.address, now()), found
+        question, kept = Question(self.words.address, now(), self.key), found
         while True:
             moment = now()
             if moment >= kept + ASKED:

@@ -254,7 +254,7 @@ def parser_of() -> argparse.ArgumentParser:
     one = add_plain(commands, "elect", _elect.elect, "serve while this machine is the elected one of several",
                     "Waits for the lock of etcd until no other machine serves NAME, then runs the command, which serves it, and watches it: it is stopped\n"
                     "while nobody tells whether the lock is still there, and killed once that is gone or the server hangs. bossd-elected(8) says more.")
-    one.usage = "bossctl elect PROGRAM .. serve CATALOGUE etcd:HOST:PORT[,HOST:PORT..]/NAME ADDRESS WORKERS CONNECTIONS [RULES [PLAN]]"
+    one.usage = "bossctl elect PROGRAM .. serve CATALOGUE etcd:HOST:PORT[,HOST:PORT..]/NAME ADDRESS WORKERS CONNECTIONS [RULES [PLAN [KEYS]]]"
 
     add(commands, "version", _commands.version, "show the version of bossctl")
     return parser

@@ -16,7 +16,7 @@ NOT_THERE, NOT_RUN = 127, 126
 EVENTS = re.compile(r"(?:standby )?events (\d+)\b")
 DIGEST = re.compile(r"journal catalogue .* ([0-9a-f]{64})\n")
 # A journal that is kept under no catalogue, since its digest is none: 32 characters that no SHA-256 is likely to be.
-KEPT_UNDER_NONE = b"BOSSJRNL\3" + b"0" * 32 + b"\0"
+KEPT_UNDER_NONE = b"BOSSJRNL\2" + b"0" * 32 + b"\0"
 
 
 class Fault(Exception):
