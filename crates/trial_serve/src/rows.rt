@@ -310,6 +310,10 @@ events 2 now 1000 leases 0 pending 0
 status 0
 "#,
     },
+];
+
+/// Where there are keys, and one where there are none.
+const KEYED: &[Row] = &[
     Row {
         shows: "whoever shows its key with the first line is answered, and watches whom it wants under its name",
         setting: Setting {
@@ -429,6 +433,10 @@ events 1 now 1000 leases 0 pending 0
 status 0
 "#,
     },
+];
+
+/// Which of two ends comes first, and the line at the end.
+const ENDS: &[Row] = &[
     // The first worker has the sessions 1 and 3, the second one 2.
     Row {
         shows: "sessions count on by the number of workers",
@@ -526,6 +534,20 @@ fn servers_in_memory(rt: HostRuntime) {
     let alloc = rt.alloc();
     let catalogue = Catalogue::read(alloc, THREE_POINTS.as_bytes()).expect(&rt, "a catalogue");
     expect_rows(&rt, alloc, &catalogue, ROWS);
+}
+
+#[test]
+fn servers_by_keys(rt: HostRuntime) {
+    let alloc = rt.alloc();
+    let catalogue = Catalogue::read(alloc, THREE_POINTS.as_bytes()).expect(&rt, "a catalogue");
+    expect_rows(&rt, alloc, &catalogue, KEYED);
+}
+
+#[test]
+fn ends_of_servers(rt: HostRuntime) {
+    let alloc = rt.alloc();
+    let catalogue = Catalogue::read(alloc, THREE_POINTS.as_bytes()).expect(&rt, "a catalogue");
+    expect_rows(&rt, alloc, &catalogue, ENDS);
 }
 
 const ONE: Setting<'static> = Setting {
