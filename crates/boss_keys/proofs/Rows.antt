@@ -1,15 +1,15 @@
 -- Worked rows, computed from the definitions: files, one accepted and others refused, and who is admitted by a key.
-use Rattle.std.proofs.Common.{◌≡◌, ℕ, true, false, List, [], ◌∷◌, ◌++◌, codes, drop, pos, Ok, Err, refl}
+use Rattle.std.proofs.Common.{◌≡◌, ℕ, true, false, List, [], ◌∷◌, ◌++◌, codes, drop, pos, negsuc, Ok, Err, refl}
 use Rattle.std.specs.Fmt.{digits}
 use Rattle.hex.specs.Hex.{encode_with}
 use Rattle.sha2.specs.Sha256.{compress, digest_bytes, first_words, hash_after, rounds, schedule, sha256}
 use Rattle.toml.specs.Data.{Data, string, integer, array, table, Items, no_items, item, no_members, member}
 use Rattle.boss_access.specs.declared.pattern.Pattern.TheVariants.{Named, Beginning}
 use Rattle.boss_keys.specs.declared.entry.Entry.{Entry}
-use Rattle.boss_keys.specs.declared.refusal.KeysRefusal.TheVariants.{TooLong, Missing, TooMany, BadKey}
+use Rattle.boss_keys.specs.declared.refusal.KeysRefusal.TheVariants.{TooLong, Missing, TooMany, BadKey, BadReserve}
 use Rattle.boss_keys.specs.Admission.{is_key, digest_of, admits}
 use Rattle.boss_keys.specs.Lines.{refusal_line}
-use Rattle.boss_keys.specs.Reading.{entries_in}
+use Rattle.boss_keys.specs.Reading.{entries_in, file_in, reserve_in}
 
 -- a key of 32 characters, and its digest as `sha256sum` gives it
 abbrev shown : List ℕ
@@ -60,6 +60,34 @@ pub third-key : entries_in (file_of (item (table (member (codes "note") (integer
     ≡ Err (BadKey 1)
 third-key = refl
 
+-- ---- workers that are kept
+
+abbrev keeping : Data → Data
+keeping reserve = table (member (codes "key") (array (item a_key no_items)) (member (codes "reserve") reserve no_members))
+
+pub file-keeps_4 : file_in (keeping (integer (pos 4))) ≡ Ok (record { keys = record { process = Named (codes "a"); sha256 = digest } ∷ []; reserve = 4 })
+file-keeps_4 = refl
+
+pub file-keeps_none : file_in (file_of no_items) ≡ Ok (record { keys = []; reserve = 0 })
+file-keeps_none = refl
+
+pub reserve-greatest : reserve_in (keeping (integer (pos 1024))) ≡ Ok 1024
+reserve-greatest = refl
+
+pub reserve-greater : reserve_in (keeping (integer (pos 1025))) ≡ Err BadReserve
+reserve-greater = refl
+
+pub reserve-negative : reserve_in (keeping (integer (negsuc 0))) ≡ Err BadReserve
+reserve-negative = refl
+
+pub reserve-text : reserve_in (keeping (string (codes "4"))) ≡ Err BadReserve
+reserve-text = refl
+
+-- a bad entry is told before it
+pub entry-before_reserve : file_in (table (member (codes "key") (array (item (table no_members) no_items)) (member (codes "reserve") (integer (pos 1025)) no_members)))
+    ≡ Err (BadKey 1)
+entry-before_reserve = refl
+
 -- ---- what may be a key at all
 
 pub key-of_32 : is_key shown ≡ true
@@ -95,6 +123,9 @@ pub admitted-by_none : admits [] (codes "a") shown ≡ false
 admitted-by_none = refl
 
 -- ---- lines
+
+pub line-bad_reserve : refusal_line BadReserve ≡ codes "keys bad-reserve\n"
+line-bad_reserve = refl
 
 pub line-missing : refusal_line Missing ≡ codes "keys missing\n"
 line-missing = refl

@@ -6,6 +6,10 @@ use Rattle.std.specs.Prelude.{ℕ}
 abbrev pub most_entries : ℕ
 most_entries = 512
 
+-- workers that may be kept for whoever shows a key: all that a server may have
+abbrev pub most_reserve : ℕ
+most_reserve = 1024
+
 -- characters of a digest, in hexadecimal
 abbrev pub digest_length : ℕ
 digest_length = 64

@@ -1,15 +1,16 @@
 -- Source: TOML 1.0.0 (the form of the file); its keys own; the tests and their order own.
--- The entries that a file spells, or why it is refused: five tests in their order, and in the last the least place.
-use Rattle.std.specs.Prelude.{◌≡◌, ℕ, ◌+◌, nat_lt, Bool, if◌then◌else◌, List, [], ◌∷◌, ◌++◌, length, codes, Result, Ok, Err}
-use Rattle.std.specs.Option.{option_map_or, ok_or}
-use Rattle.toml.specs.Data.{Data}
+-- What a file spells, or why it is refused: six tests in their order, and in the fifth the least place.
+use Rattle.std.specs.Prelude.{◌≡◌, ℕ, ◌+◌, nat_le, nat_lt, ℤ, pos, negsuc, Bool, if◌then◌else◌, List, [], ◌∷◌, ◌++◌, length, codes, Option, Some, None, Result, Ok, Err}
+use Rattle.std.specs.Option.{option_and_then, option_map_or, ok_or}
+use Rattle.toml.specs.Data.{Data, as_integer, get}
 use Rattle.boss_model.specs.Limits.{longest_file}
 use Rattle.boss_points.specs.Keys.{array_at}
 use Rattle.boss_points.specs.Reading.{table_of}
 use Rattle.boss_keys.specs.declared.entry.Entry.{Entry}
+use Rattle.boss_keys.specs.declared.file.KeyFile.{KeyFile}
 use Rattle.boss_keys.specs.declared.refusal.KeysRefusal.{KeysRefusal}
-use Rattle.boss_keys.specs.declared.refusal.KeysRefusal.TheVariants.{TooLong, NotToml, Missing, TooMany, BadKey, NoMemory}
-use Rattle.boss_keys.specs.Limits.{most_entries}
+use Rattle.boss_keys.specs.declared.refusal.KeysRefusal.TheVariants.{TooLong, NotToml, Missing, TooMany, BadKey, BadReserve, NoMemory}
+use Rattle.boss_keys.specs.Limits.{most_entries, most_reserve}
 use Rattle.boss_keys.specs.Tables.{entry_of}
 
 -- one test after another, until one refuses
@@ -36,12 +37,31 @@ entries_in file = do
   _ ← at_most most_entries tables  -- 4
   entries_from 1 [] tables  -- 5
 
--- all five tests, and the entries that the bytes spell
-unfoldable pub keys_of : List ℕ → Result (List Entry) KeysRefusal
+-- a number of workers: from 0 to 1,024
+abbrev pub reserve_of : ℤ → Option ℕ
+reserve_of (pos n) = if nat_le n most_reserve then Some n else None
+reserve_of (negsuc _) = None
+
+abbrev pub reserve_spelled : Data → Option ℕ
+reserve_spelled value = option_and_then reserve_of (as_integer value)
+
+-- how many workers are kept for whoever shows a key: none where it is left out
+abbrev pub reserve_in : Data → Result ℕ KeysRefusal
+reserve_in file = option_map_or (λ value. ok_or (reserve_spelled value) BadReserve) (get (codes "reserve") file) (Ok 0)
+
+-- tests 3 to 6, and what a table spells
+abbrev pub file_in : Data → Result KeyFile KeysRefusal
+file_in file = do
+  entries ← entries_in file
+  reserve ← reserve_in file  -- 6
+  Ok (record { keys = entries; reserve = reserve })
+
+-- all six tests, and what the bytes spell
+unfoldable pub keys_of : List ℕ → Result KeyFile KeysRefusal
 keys_of bytes = do
   _ ← refuse_if (nat_lt longest_file (length bytes)) (TooLong (length bytes))  -- 1
   file ← ok_or (table_of bytes) NotToml  -- 2
-  entries_in file
+  file_in file
 
 -- the refusal is the one that reading gives. Out of memory says nothing.
 abbrev pub Refused : {A : Type 0} → KeysRefusal → Result A KeysRefusal → Type 0

@@ -4,12 +4,12 @@ ghost use Rattle.toml.specs.View.{view};
 ghost use Rattle.boss_points.specs.Seen.{views};
 ghost use Rattle.boss_keys.specs.Admission.{admits, is_right};
 ghost use Rattle.boss_keys.specs.Limits.{most_entries};
-ghost use Rattle.boss_keys.specs.Reading.{Gives, keys_of, entries_in, entries_from, at_most};
+ghost use Rattle.boss_keys.specs.Reading.{Gives, entries_in, entries_from, at_most};
 
 use crate::shown::{digest_of, is_key};
-use crate::table::{array_at, table_of};
+use crate::table::array_at;
 use crate::{DIGEST_LENGTH, Entry, KeysRefusal, MOST_ENTRIES};
-use boss_model::{LONGEST_FILE, Name};
+use boss_model::Name;
 use std::alloc::Global;
 use std::marker::Model;
 use toml::Value;
@@ -33,21 +33,8 @@ impl Model for Keys {
 }
 
 impl Keys {
-    /// The entries that a file spells, in TOML. Keys beside the array `key` are passed over.
-    #[tactic(auto, unfolding(crate::specs::Reading::keys_of))]
-    pub fn read(alloc: Global, bytes: &[u8]) -> Result<Keys, KeysRefusal>
-        ensures { Gives (λ keys. keys) result (keys_of bytes.now) }
-    {
-        if bytes.len() > LONGEST_FILE {
-            let length = bytes.len() as u64;
-            return Err(KeysRefusal::TooLong { length });
-        }
-        let file = table_of(alloc, bytes)?;
-        Keys::in_file(alloc, &file)
-    }
-
     /// The entries that a file's table spells.
-    fn in_file(alloc: Global, file: &Value) -> Result<Keys, KeysRefusal>
+    pub(crate) fn in_file(alloc: Global, file: &Value) -> Result<Keys, KeysRefusal>
         ensures { Gives (λ keys. keys) result (entries_in (view file.now)) }
     {
         let tables = array_at(file, "key").ok_or(KeysRefusal::Missing)?;

@@ -3,6 +3,7 @@
 #![tactic(auto)]
 
 mod entry;
+mod file;
 mod keys;
 mod limits;
 mod line;
@@ -11,7 +12,8 @@ mod shown;
 mod table;
 
 pub use entry::Entry;
+pub use file::KeyFile;
 pub use keys::Keys;
-pub use limits::{DIGEST_LENGTH, LONGEST_KEY, MOST_ENTRIES, SHORTEST_KEY};
+pub use limits::{DIGEST_LENGTH, LONGEST_KEY, MOST_ENTRIES, MOST_RESERVE, SHORTEST_KEY};
 pub use line::refusal_line;
 pub use refusal::KeysRefusal;

@@ -3,6 +3,9 @@
 /// How many entries a file may have.
 pub const MOST_ENTRIES: usize = 512;
 
+/// How many workers may be kept for whoever shows a key.
+pub const MOST_RESERVE: u32 = 1_024;
+
 /// How many characters the digest of a key has, in hexadecimal.
 pub const DIGEST_LENGTH: usize = 64;
 

@@ -26,6 +26,7 @@ fn text_of(alloc: Global, refusal: KeysRefusal) -> Result<Vec<u8>, NoMemory>
         KeysRefusal::Missing => Ok(Vec::from_slice(alloc, b"missing")?),
         KeysRefusal::TooMany { count } => with_number(alloc, b"too-many ", count),
         KeysRefusal::BadKey { place } => with_number(alloc, b"bad-key ", place),
+        KeysRefusal::BadReserve => Ok(Vec::from_slice(alloc, b"bad-reserve")?),
         KeysRefusal::NoMemory => Ok(Vec::new(alloc)),
     }
 }

@@ -1,7 +1,7 @@
 ghost use Rattle.boss_keys.specs.declared.refusal.KeysRefusal.TheVariants.{NoMemory};
 ghost use Rattle.std.specs.Prelude.{◌≡◌};
 
-use crate::MOST_ENTRIES;
+use crate::{MOST_ENTRIES, MOST_RESERVE};
 use boss_model::LONGEST_FILE;
 use std::alloc::{AllocError, AllocFailed};
 use std::error::Error;
@@ -30,6 +30,8 @@ pub enum KeysRefusal {
         /// Its place among the entries, from 1.
         place: u64,
     },
+    /// `reserve` is no whole number from 0 to 1,024.
+    BadReserve,
     /// No memory was to be had. This says nothing of the file.
     NoMemory,
 }
@@ -49,6 +51,10 @@ impl fmt::Display for KeysRefusal {
             KeysRefusal::BadKey { place } => write!(
                 f,
                 "the key {place} is none: its process or sha256 is of another form, or it has another key"
+            ),
+            KeysRefusal::BadReserve => write!(
+                f,
+                "reserve is no whole number from 0 to {MOST_RESERVE}"
             ),
             KeysRefusal::NoMemory => f.write_str("out of memory"),
         }

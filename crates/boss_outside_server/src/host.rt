@@ -27,6 +27,8 @@ pub struct Announcement {
     pub events: u64,
     /// The moment of the journal's last change, in milliseconds since 1970; 0 where there was none yet.
     pub now: u64,
+    /// How many of its workers are kept for whoever shows a key: one that is silent holds such a worker for a second at most.
+    pub reserve: u32,
 }
 
 /// Something that hands out connections, one at a time, and takes each back when it has ended.
