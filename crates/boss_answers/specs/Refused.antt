@@ -14,14 +14,15 @@ usage_line = codes "usage" ++ 10 ∷ []
 abbrev pub help_text : List ℕ
 help_text =
     codes "script CATALOGUE JOURNAL: answer commands that come line by line on the standard input" ++ 10 ∷
-    codes "serve CATALOGUE JOURNAL ADDRESS WORKERS CONNECTIONS [RULES [PLAN]]: serve control programs over TCP" ++ 10 ∷
+    codes "serve CATALOGUE JOURNAL ADDRESS WORKERS CONNECTIONS [RULES [PLAN [KEYS]]]: serve control programs over TCP" ++ 10 ∷
     codes "check CATALOGUE JOURNAL: tell what a journal stands for, and write nothing" ++ 10 ∷
     codes "adopt OLD NEW JOURNAL: take a journal over under a changed catalogue" ++ 10 ∷
+    codes "shift CATALOGUE JOURNAL BY: take all moments of a journal back by so many milliseconds" ++ 10 ∷
     codes "feed CATALOGUE JOURNAL FROM: tell the events of a journal above a number" ++ 10 ∷
     codes "standby CATALOGUE JOURNAL: follow a feed that comes on the standard input" ++ 10 ∷
     codes "load COUNT SEED: play a generated day" ++ 10 ∷
     codes "version: tell which version this is" ++ 10 ∷
-    codes "JOURNAL is a file with a second one beside it that ends with .b, or - for memory alone; RULES and PLAN are files, or - for none" ++ 10 ∷
+    codes "JOURNAL is a file with a second one beside it that ends with .b, etcd:HOST:PORT/NAME, or - for memory alone; RULES, PLAN and KEYS are files, or - for none" ++ 10 ∷
     []
 
 -- the program, and its version

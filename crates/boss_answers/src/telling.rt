@@ -17,14 +17,15 @@ use boss_points::Catalogue;
 /// The jobs, one a line, and what their words are.
 const HELP: &str =
     "script CATALOGUE JOURNAL: answer commands that come line by line on the standard input\n\
-    serve CATALOGUE JOURNAL ADDRESS WORKERS CONNECTIONS [RULES [PLAN]]: serve control programs over TCP\n\
+    serve CATALOGUE JOURNAL ADDRESS WORKERS CONNECTIONS [RULES [PLAN [KEYS]]]: serve control programs over TCP\n\
     check CATALOGUE JOURNAL: tell what a journal stands for, and write nothing\n\
     adopt OLD NEW JOURNAL: take a journal over under a changed catalogue\n\
+    shift CATALOGUE JOURNAL BY: take all moments of a journal back by so many milliseconds\n\
     feed CATALOGUE JOURNAL FROM: tell the events of a journal above a number\n\
     standby CATALOGUE JOURNAL: follow a feed that comes on the standard input\n\
     load COUNT SEED: play a generated day\n\
     version: tell which version this is\n\
-    JOURNAL is a file with a second one beside it that ends with .b, or - for memory alone; RULES and PLAN are files, or - for none\n";
+    JOURNAL is a file with a second one beside it that ends with .b, etcd:HOST:PORT/NAME, or - for memory alone; RULES, PLAN and KEYS are files, or - for none\n";
 
 /// Tells an answer, as a line.
 pub fn tell_answer<K: Sink>(

@@ -47,17 +47,18 @@ point=[
 {name='fan',driver='field',kind='multi',states=3,default=1}]
 ";
 
-/// The jobs of the table of words in PROTOCOL, one a line, and what a journal, the rules and the plan are.
+/// The jobs of the table of words in PROTOCOL, one a line, and what a journal, the rules, the plan and the keys are.
 const HELP: &str =
     "script CATALOGUE JOURNAL: answer commands that come line by line on the standard input
-serve CATALOGUE JOURNAL ADDRESS WORKERS CONNECTIONS [RULES [PLAN]]: serve control programs over TCP
+serve CATALOGUE JOURNAL ADDRESS WORKERS CONNECTIONS [RULES [PLAN [KEYS]]]: serve control programs over TCP
 check CATALOGUE JOURNAL: tell what a journal stands for, and write nothing
 adopt OLD NEW JOURNAL: take a journal over under a changed catalogue
+shift CATALOGUE JOURNAL BY: take all moments of a journal back by so many milliseconds
 feed CATALOGUE JOURNAL FROM: tell the events of a journal above a number
 standby CATALOGUE JOURNAL: follow a feed that comes on the standard input
 load COUNT SEED: play a generated day
 version: tell which version this is
-JOURNAL is a file with a second one beside it that ends with .b, or - for memory alone; RULES and PLAN are files, or - for none
+JOURNAL is a file with a second one beside it that ends with .b, etcd:HOST:PORT/NAME, or - for memory alone; RULES, PLAN and KEYS are files, or - for none
 ";
 
 const ATTACH: &str = "{\"op\":\"attach\",\"process\":\"a\"}\n";
