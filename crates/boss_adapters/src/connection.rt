@@ -18,7 +18,7 @@ const STALL: u64 = 5;
 const MOST_STALLS: u32 = 12;
 
 /// What comes in by a connection. The connection closes when its source and its sink are dropped. A read fails where the end of a line is
-/// overdue: a minute after the connection was made where none came yet, and a minute after a line was begun. Between two lines it waits.
+/// overdue: a minute after the connection was made where none came yet (a second where its worker is kept for whoever shows a key), and a minute after a line was begun. Between two lines it waits.
 #[derive(Drop)]
 pub struct RealSource {
     stream: Arc<TcpStream, Global>,
@@ -29,12 +29,12 @@ pub struct RealSource {
 }
 
 impl RealSource {
-    pub(crate) fn new(stream: Arc<TcpStream, Global>) -> RealSource
+    pub(crate) fn new(stream: Arc<TcpStream, Global>, patience: Patience) -> RealSource
         ensures { result.faults ≡ 0 }
     {
         RealSource {
             stream,
-            patience: Patience::new(),
+            patience,
             is_limited: false,
             faults: 0,
         }

@@ -2,6 +2,7 @@ ghost use Rattle.std.specs.Prelude.{◌≡◌, [], IfOk};
 ghost use Rattle.boss_outside.specs.Counts.{one_more};
 
 use crate::aside::say_aside;
+use crate::patience::Patience;
 use crate::peers::keep_alive;
 use crate::{Door, RealSink, RealSource};
 use boss_model::{NoMemory, PROGRAM_VERSION, SessionId};
@@ -33,6 +34,10 @@ const MOST_PAUSES: u32 = 3_600;
 ///
 /// Where it has a door (`stand_at`), a connection for which no part accepts is turned away there. That was handed to nobody and counts
 /// nowhere. Whether keys are asked for is no business of its own: it only says so (`say_keyed`).
+///
+/// Where workers are kept for whoever shows a key (`reserve` of what it announces), they are the first parts that are split off. Whoever
+/// connects to one of these has a second for its first line, which shows a key or ends the connection. So one that shows none never
+/// holds such a worker for longer.
 #[derive(Drop)]
 pub struct RealHost<R> {
     alloc: Global,
@@ -40,6 +45,10 @@ pub struct RealHost<R> {
     listener: Option<Arc<TcpListener, Global>>,
     door: Option<Arc<Door, Global>>,
     is_keyed: bool,
+    /// How many parts are still to be split off that are kept for whoever shows a key.
+    reserve: u32,
+    /// Whoever connects here has a second for its first line, in place of a minute.
+    is_kept: bool,
     handed: u64,
     share: u32,
     away: u64,
@@ -60,6 +69,8 @@ impl<R: Net<Listener = TcpListener, Stream = TcpStream> + Eprint + Clock + Copy>
             listener: None,
             door: None,
             is_keyed: false,
+            reserve: 0,
+            is_kept: false,
             handed: 0,
             share: 0,
             away: 0,
@@ -162,7 +173,12 @@ impl<R: Net<Listener = TcpListener, Stream = TcpStream> + Eprint + Clock + Copy>
         let _ = stream.set_nodelay(true);
         let stream = Arc::new(self.alloc, stream)?;
         let other = Arc::try_clone(&stream)?;
-        Ok((RealSource::new(stream), RealSink::new(other)))
+        let patience = if self.is_kept {
+            Patience::for_a_kept_worker()
+        } else {
+            Patience::new()
+        };
+        Ok((RealSource::new(stream, patience), RealSink::new(other)))
     }
 
     /// Says why a connection could not be accepted.
@@ -241,7 +257,9 @@ impl<R: Net<Listener = TcpListener, Stream = TcpStream> + Eprint + Clock + Copy>
             drivers,
             events,
             now,
+            reserve,
         } = announcement;
+        self.reserve = reserve;
         let keyed = if self.is_keyed { "with" } else { "without" };
         if let Some(found) = self.local_addr() {
             say_aside(
@@ -254,6 +272,8 @@ impl<R: Net<Listener = TcpListener, Stream = TcpStream> + Eprint + Clock + Copy>
     }
 
     fn split(&mut self, alloc: Global, connections: u32) -> Result<Self, NoMemory> {
+        let is_kept = self.reserve > 0;
+        self.reserve = self.reserve.saturating_sub(1);
         let listener = match &self.listener {
             Some(listener) => Some(Arc::try_clone(listener)?),
             None => None,
@@ -268,6 +288,8 @@ impl<R: Net<Listener = TcpListener, Stream = TcpStream> + Eprint + Clock + Copy>
             listener,
             door,
             is_keyed: self.is_keyed,
+            reserve: 0,
+            is_kept,
             handed: 0,
             share: connections,
             away: 0,

@@ -8,7 +8,7 @@ use Rattle.boss_access.specs.declared.refusal.RulesRefusal.{RulesRefusal}
 use Rattle.boss_access.specs.declared.rule.Rule.{Rule}
 use Rattle.boss_access.specs.Reading.{rules_of}
 use Rattle.boss_jobs.specs.Jobs.{TellsLine}
-use Rattle.boss_keys.specs.declared.entry.Entry.{Entry as KeyEntry}
+use Rattle.boss_keys.specs.declared.file.KeyFile.{KeyFile}
 use Rattle.boss_keys.specs.declared.refusal.KeysRefusal.{KeysRefusal}
 use Rattle.boss_keys.specs.Reading.{keys_of}
 use Rattle.boss_outside.specs.Counts.{Rose}
@@ -117,7 +117,7 @@ module _ {F D : Type 0} (f : files.Ghosts F D) (old new : F) (stays : f.tells �
   rules-refused-before None refusal is = is
   rules-refused-before (Some name) refusal is = λ tells. let spelt = is tells in (spelt.0, sym (stays tells name) ∙ spelt.1, spelt.2)
 
-  pub keyed-before : (keys : Option (List ℕ)) (given : Option (List KeyEntry)) → AreKeyed f keys new given → AreKeyed f keys old given
+  pub keyed-before : (keys : Option (List ℕ)) (given : Option KeyFile) → AreKeyed f keys new given → AreKeyed f keys old given
   keyed-before None given is = is
   keyed-before (Some name) given is = (is.0, is.1, λ tells. let spelt = is.2 tells in (spelt.0, sym (stays tells name) ∙ spelt.1, spelt.2))
 

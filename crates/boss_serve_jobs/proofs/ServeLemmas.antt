@@ -22,6 +22,7 @@ use Rattle.boss_files.specs.Names.{second_name}
 use Rattle.boss_jobs.specs.Jobs.{TellsLine}
 use Rattle.boss_jobs.specs.Journals.{AsksFront, in_files, IsRefused, Pair}
 use Rattle.boss_server.specs.Sites.{gates_of}
+use Rattle.boss_serve_jobs.specs.Keying.{keys_in}
 use Rattle.boss_serve_jobs.specs.Preparing.{listed, TakesKeys, TakesPlan, TakesRules}
 use Rattle.boss_jobs.specs.Programs.{usable}
 use Rattle.boss_serve_jobs.specs.ServeJobs.{DoesServe, EndsBy, Faults, faults_at, NoneRose, outside_at, ServedCatalogue, ServedFiles, ServerWorld, ServesInMemory, ServesNone}
@@ -184,21 +185,21 @@ module _ {F D S K A H In Out C W Bells P Runtime : Type 0} (f : files.Ghosts F D
     asks = asks;
     came_back = elim did [
       | inl none ↦ same-back h old.host new.host none.1.host
-      | inr served ↦ over-back k a h i o c w p served.0.catalogue (gates_of served.0.catalogue served.0.given) served.0.entries workers connections (record (outside_at old) { devices = served.0.devices }) (outside_at new) status _ _ served.0.serves
+      | inr served ↦ over-back k a h i o c w p served.0.catalogue (gates_of served.0.catalogue served.0.given) (keys_in served.0.entries) workers connections (record (outside_at old) { devices = served.0.devices }) (outside_at new) status _ _ served.0.serves
     ];
     listens = elim did [ inl none ↦ λ tells. none-listens none | inr served ↦ served.1 ];
     others = others;
     causes = elim did [
       | inl none ↦ elim (none-ends none) [ inl ends ↦ inl ends | inr (inl refused) ↦ inr (inl refused) | inr (inr refused) ↦ inr (inr (inr refused)) ]
       | inr served ↦
-          elim (over-ends k a h i o c w p served.0.catalogue (gates_of served.0.catalogue served.0.given) served.0.entries workers connections (record (outside_at old) { devices = served.0.devices }) (outside_at new) status _ _ served.0.serves)
+          elim (over-ends k a h i o c w p served.0.catalogue (gates_of served.0.catalogue served.0.given) (keys_in served.0.entries) workers connections (record (outside_at old) { devices = served.0.devices }) (outside_at new) status _ _ served.0.serves)
           [ inl ends ↦ inl ends | inr refused ↦ inr (inr (inl refused)) ]
     ];
     complete = λ catalogue file tells holds used ruled keyed takes opens fine. elim did [
       | inl none ↦ none-fine catalogue file tells holds used ruled keyed takes none fine
       | inr served ↦
           let same : served.0.catalogue ≡ catalogue = one-catalogue f old.world.files tells name count file catalogue holds used served.0.catalogue served.0.comes in
-          over-fine k a h i o c w p served.0.catalogue (gates_of served.0.catalogue served.0.given) served.0.entries workers connections (record (outside_at old) { devices = served.0.devices }) (outside_at new) status _ _ served.0.serves tells
+          over-fine k a h i o c w p served.0.catalogue (gates_of served.0.catalogue served.0.given) (keys_in served.0.entries) workers connections (record (outside_at old) { devices = served.0.devices }) (outside_at new) status _ _ served.0.serves tells
           (λ refusal refused. opens refusal (subst (λ one. IsRefused one (in_files f journal old.world.files) refusal) same refused)) fine
     ];
   }
@@ -215,7 +216,7 @@ module _ {F D S K A H In Out C W Bells P Runtime : Type 0} (f : files.Ghosts F D
     listens = elim did [ inl none ↦ λ tells. none-listens none | inr served ↦ served.1 ];
     came_back = elim did [
       | inl none ↦ same-back h old.host new.host none.1.host
-      | inr served ↦ memory-back k a h i o c w p served.0.catalogue (gates_of served.0.catalogue served.0.given) served.0.entries workers connections (record (outside_at old) { devices = served.0.devices }) (outside_at new) status served.0.serves
+      | inr served ↦ memory-back k a h i o c w p served.0.catalogue (gates_of served.0.catalogue served.0.given) (keys_in served.0.entries) workers connections (record (outside_at old) { devices = served.0.devices }) (outside_at new) status served.0.serves
     ];
     causes = elim did [ inl none ↦ none-ends none | inr served ↦ inl (memory-causes served.0) ];
     complete = λ catalogue file tells holds used ruled keyed takes fine. elim did [
@@ -227,4 +228,4 @@ module _ {F D S K A H In Out C W Bells P Runtime : Type 0} (f : files.Ghosts F D
       memory-causes : ServedCatalogue f s k a h i o c w p name address rules plan keys count workers connections old new status → EndsBy was now status
       memory-causes served =
           subst (λ n. EndsBy was (record { files = n; sink = now.sink; host = now.host; spawner = now.spawner; clock = now.clock }) status) (sym served.files)
-          (memory-ends k a h i o c w p served.catalogue (gates_of served.catalogue served.given) served.entries workers connections (record (outside_at old) { devices = served.devices }) (outside_at new) status (f.faults old.world.files) served.serves)
+          (memory-ends k a h i o c w p served.catalogue (gates_of served.catalogue served.given) (keys_in served.entries) workers connections (record (outside_at old) { devices = served.devices }) (outside_at new) status (f.faults old.world.files) served.serves)

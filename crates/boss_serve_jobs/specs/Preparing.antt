@@ -13,7 +13,7 @@ use Rattle.boss_access.specs.declared.rule.Rule.{Rule}
 use Rattle.boss_access.specs.Lines.{refusal_line as rules_refusal_line}
 use Rattle.boss_access.specs.Reading.{rules_of}
 use Rattle.boss_answers.specs.Refused.{refusal_line}
-use Rattle.boss_keys.specs.declared.entry.Entry.{Entry as KeyEntry}
+use Rattle.boss_keys.specs.declared.file.KeyFile.{KeyFile}
 use Rattle.boss_keys.specs.declared.refusal.KeysRefusal.{KeysRefusal}
 use Rattle.boss_keys.specs.Lines.{refusal_line as keys_refusal_line}
 use Rattle.boss_keys.specs.Reading.{keys_of}
@@ -75,13 +75,13 @@ module _ {F D : Type 0} (f : files.Ghosts F D) where
   TakesRules (Some name) files = (file : List ℕ) × (rules : List Rule) × (f.holds files name ≡ Some file) × (rules_of file ≡ Ok rules)
 
   -- the file of this name spells these keys, or is refused so, if files tell what they hold
-  abbrev pub SpellsKeys : List ℕ → F → Result (List KeyEntry) KeysRefusal → Type 0
+  abbrev pub SpellsKeys : List ℕ → F → Result KeyFile KeysRefusal → Type 0
   SpellsKeys name files result = f.tells → (file : List ℕ) × (f.holds files name ≡ Some file) × (keys_of file ≡ result)
 
   -- these are the keys that the words name, if they name some
-  abbrev pub AreKeyed : Option (List ℕ) → F → Option (List KeyEntry) → Type 0
+  abbrev pub AreKeyed : Option (List ℕ) → F → Option KeyFile → Type 0
   AreKeyed None files given = given ≡ None
-  AreKeyed (Some name) files given = (keys : List KeyEntry) × (given ≡ Some keys) × SpellsKeys name files (Ok keys)
+  AreKeyed (Some name) files given = (found : KeyFile) × (given ≡ Some found) × SpellsKeys name files (Ok found)
 
   -- the keys that the words name are refused
   abbrev pub RefusesKeys : Option (List ℕ) → F → KeysRefusal → Type 0
@@ -91,7 +91,7 @@ module _ {F D : Type 0} (f : files.Ghosts F D) where
   -- the keys that the words name, if they name some, can be used
   abbrev pub TakesKeys : Option (List ℕ) → F → Type 0
   TakesKeys None files = Unit {0}
-  TakesKeys (Some name) files = (file : List ℕ) × (keys : List KeyEntry) × (f.holds files name ≡ Some file) × (keys_of file ≡ Ok keys)
+  TakesKeys (Some name) files = (file : List ℕ) × (found : KeyFile) × (f.holds files name ≡ Some file) × (keys_of file ≡ Ok found)
 
   -- the plan that the words name is refused under this catalogue
   abbrev pub RefusesPlan : Option (List ℕ) → Catalogue → F → PlanRefusal → Type 0
@@ -146,7 +146,7 @@ module _ {F D : Type 0} (f : files.Ghosts F D) where
       pub comes : Comes name count old.files (Ok catalogue)
       pub given : Option (List Rule)
       pub ruled : AreRuled rules old.files given
-      pub entries : Option (List KeyEntry)
+      pub entries : Option KeyFile
       pub keyed : AreKeyed keys old.files entries
       pub refusal : PlanRefusal
       pub refuses : RefusesPlan plan catalogue old.files refusal
@@ -164,7 +164,7 @@ module _ {F D : Type 0} (f : files.Ghosts F D) where
         HadNone old new status.0 ⊎ ((refusal : RulesRefusal) × RefusesRules rules old.files refusal × Refused (rules_refusal_line refusal) 16 old new status.0)
 
     -- the keys that the words name were read, if they name some; or it ended without
-    abbrev pub GivesKeys : Option (List ℕ) → Setting F K A → Setting F K A → Result (Option (List KeyEntry)) Status → Type 0
+    abbrev pub GivesKeys : Option (List ℕ) → Setting F K A → Setting F K A → Result (Option KeyFile) Status → Type 0
     GivesKeys keys old new (Ok given) = AreKeyed keys old.files given × (f.faults new.files ≡ f.faults old.files) × (new.sink ≡ old.sink)
     GivesKeys keys old new (Err status) =
         HadNone old new status.0 ⊎ ((refusal : KeysRefusal) × RefusesKeys keys old.files refusal × Refused (keys_refusal_line refusal) 19 old new status.0)
@@ -183,7 +183,7 @@ module _ {F D : Type 0} (f : files.Ghosts F D) where
           ⊎ ((refusal : PlanRefusal) × RefusesPlan plan catalogue old.files refusal × Refused (plan_refusal_line catalogue refusal) 17 old new status.0)
 
       -- all is set up, and nothing was told
-      pub record Prepared (name : List ℕ) (rules plan keys : Option (List ℕ)) (count : ℕ) (catalogue : Catalogue) (given : Option (List Rule)) (entries : Option (List KeyEntry)) (old new : Setting F K A) : Type 0 where
+      pub record Prepared (name : List ℕ) (rules plan keys : Option (List ℕ)) (count : ℕ) (catalogue : Catalogue) (given : Option (List Rule)) (entries : Option KeyFile) (old new : Setting F K A) : Type 0 where
         pub comes : Comes name count old.files (Ok catalogue)
         pub ruled : AreRuled rules old.files given
         pub keyed : AreKeyed keys old.files entries
@@ -191,6 +191,6 @@ module _ {F D : Type 0} (f : files.Ghosts F D) where
         pub files : f.faults new.files ≡ f.faults old.files
         pub sink : new.sink ≡ old.sink
 
-      abbrev pub Prepares : List ℕ → Option (List ℕ) → Option (List ℕ) → Option (List ℕ) → ℕ → Setting F K A → Setting F K A → Result (Catalogue × Option (List Rule) × Option (List KeyEntry)) Status → Type 0
+      abbrev pub Prepares : List ℕ → Option (List ℕ) → Option (List ℕ) → Option (List ℕ) → ℕ → Setting F K A → Setting F K A → Result (Catalogue × Option (List Rule) × Option KeyFile) Status → Type 0
       Prepares name rules plan keys count old new (Ok made) = Prepared name rules plan keys count made.0 made.1 made.2 old new
       Prepares name rules plan keys count old new (Err status) = Unprepared name rules plan keys count old new status.0

@@ -20,8 +20,9 @@ use Rattle.boss_serve_jobs.specs.declared.world.World.{World as Given}
 use Rattle.boss_jobs.specs.Jobs.{World, world}
 use Rattle.boss_jobs.specs.Journals.{AsksFront, in_files, IsRefused}
 use Rattle.boss_access.specs.declared.rule.Rule.{Rule}
-use Rattle.boss_keys.specs.declared.entry.Entry.{Entry as KeyEntry}
+use Rattle.boss_keys.specs.declared.file.KeyFile.{KeyFile}
 use Rattle.boss_server.specs.Sites.{gates_of}
+use Rattle.boss_serve_jobs.specs.Keying.{keys_in}
 use Rattle.boss_serve_jobs.specs.Preparing.{AreKeyed, AreRuled, AreSet, Comes, listed, Setting, setting, TakesKeys, TakesPlan, TakesRules, Unprepared}
 use Rattle.boss_jobs.specs.Programs.{usable}
 use Rattle.boss_serve_jobs.specs.Serving.{CameBack, Listened, Outside, outside, ServesMemory, ServesOver}
@@ -119,11 +120,11 @@ module _ {F D S K A H In Out C W Bells P Runtime : Type 0} (f : files.Ghosts F D
       pub comes : Comes f name count old.world.files (Ok catalogue)
       pub given : Option (List Rule)
       pub ruled : AreRuled f rules old.world.files given
-      pub entries : Option (List KeyEntry)
+      pub entries : Option KeyFile
       pub keyed : AreKeyed f keys old.world.files entries
       pub devices : List A
       pub set : AreSet f k a plan catalogue old.world.files old.world.devices devices
-      pub serves : ServesOver k a h i o c w p catalogue (in_files f journal old.world.files) (in_files f journal new.world.files) (gates_of catalogue given) entries workers connections
+      pub serves : ServesOver k a h i o c w p catalogue (in_files f journal old.world.files) (in_files f journal new.world.files) (gates_of catalogue given) (keys_in entries) workers connections
           (record (outside_at old) { devices = devices }) (outside_at new) status
 
     pub record DoesServe : Type 0 where
@@ -155,12 +156,12 @@ module _ {F D S K A H In Out C W Bells P Runtime : Type 0} (f : files.Ghosts F D
       pub comes : Comes f name count old.world.files (Ok catalogue)
       pub given : Option (List Rule)
       pub ruled : AreRuled f rules old.world.files given
-      pub entries : Option (List KeyEntry)
+      pub entries : Option KeyFile
       pub keyed : AreKeyed f keys old.world.files entries
       pub devices : List A
       pub set : AreSet f k a plan catalogue old.world.files old.world.devices devices
       pub files : f.faults new.world.files ≡ f.faults old.world.files
-      pub serves : ServesMemory k a h i o c w p catalogue (gates_of catalogue given) entries workers connections (record (outside_at old) { devices = devices }) (outside_at new) status
+      pub serves : ServesMemory k a h i o c w p catalogue (gates_of catalogue given) (keys_in entries) workers connections (record (outside_at old) { devices = devices }) (outside_at new) status
 
     pub record ServesInMemory : Type 0 where
       pub did : ServesNone name rules plan keys count old new status ⊎ ServedCatalogue

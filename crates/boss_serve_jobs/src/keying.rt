@@ -1,11 +1,11 @@
 ghost use Rattle.std.specs.Prelude.{◌≡◌, ℕ, List};
 ghost use Rattle.boss_keys.specs.Lines.{refusal_line};
 ghost use Rattle.boss_jobs.specs.Jobs.{TellsLine};
-ghost use Rattle.boss_serve_jobs.specs.Keying.{AsksFor, FaultOnly, Reads};
+ghost use Rattle.boss_serve_jobs.specs.Keying.{AsksFor, FaultOnly, Reads, keys_in, reserve_in};
 
 use boss_files::{FileBytes, FileFault, Files};
 use boss_jobs::{Status, say};
-use boss_keys::{Keys, KeysRefusal, refusal_line};
+use boss_keys::{KeyFile, Keys, KeysRefusal, refusal_line};
 use boss_outside::Sink;
 use std::alloc::Global;
 
@@ -23,8 +23,8 @@ pub enum Unkeyed {
     NoMemory,
 }
 
-/// The keys of a file.
-pub fn read_keys<F: Files>(alloc: Global, files: &mut F, name: &str) -> Result<Keys, Unkeyed>
+/// What a file of keys spells.
+pub fn read_keys<F: Files>(alloc: Global, files: &mut F, name: &str) -> Result<KeyFile, Unkeyed>
     ensures reads { F.tells → Reads (F.holds files.old name.now) result }
     ensures asks { F.tells → AsksFor name.now (F.asked files.old) (F.asked files.new) result }
     ensures stays { F.tells → (file : List ℕ) → F.holds files.new file ≡ F.holds files.old file }
@@ -39,10 +39,21 @@ pub fn read_keys<F: Files>(alloc: Global, files: &mut F, name: &str) -> Result<K
         Err(FileFault::Failed) => return Err(Unkeyed::FileFault),
         Err(FileFault::NoMemory) => return Err(Unkeyed::NoMemory),
     };
-    match Keys::read(alloc, bytes.slice()) {
-        Ok(keys) => Ok(keys),
+    match KeyFile::read(alloc, bytes.slice()) {
+        Ok(file) => Ok(file),
         Err(KeysRefusal::NoMemory) => Err(Unkeyed::NoMemory),
         Err(refusal) => Err(Unkeyed::Refused(refusal)),
+    }
+}
+
+/// The keys of a file, if there is one, and how many workers it keeps: none without a file.
+pub fn parted(file: Option<KeyFile>) -> (Option<Keys>, u32)
+    ensures keys { result.0 ≡ keys_in file }
+    ensures reserve { result.1 ≡ reserve_in file }
+{
+    match file {
+        Some(KeyFile { keys, reserve }) => (Some(keys), reserve),
+        None => (None, 0),
     }
 }
 

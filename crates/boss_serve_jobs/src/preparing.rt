@@ -9,7 +9,7 @@ use boss_access::Rules;
 use boss_assignment::{Unplanned, assign_plan};
 use boss_files::Files;
 use boss_jobs::{Status, Unusable, load, say, say_refusal};
-use boss_keys::Keys;
+use boss_keys::KeyFile;
 use boss_outside::{Actuators, Sink};
 use boss_plans::{PlanRefusal, refusal_line};
 use boss_points::Catalogue;
@@ -28,7 +28,7 @@ pub fn prepare<F: Files, K: Sink, A: Actuators>(
     files: &mut F,
     sink: &mut K,
     devices: &mut Vec<A>,
-) -> Result<(Catalogue, Option<Rules>, Option<Keys>), Status>
+) -> Result<(Catalogue, Option<Rules>, Option<KeyFile>), Status>
     ensures prepares { Prepares F.Files K.Sink A.Actuators name.now rules.now plan.now keys.now (vec_len devices.old)
         (setting files.old sink.old devices.old.items) (setting files.new sink.new devices.new.items) result }
     ensures asks { F.tells → AsksNames (name.now ∷ listed rules.now ++ listed keys.now ++ listed plan.now) (F.asked files.old) (F.asked files.new) result }
@@ -84,7 +84,7 @@ fn take_keys<F: Files, K: Sink>(
     keys: &Option<Word>,
     files: &mut F,
     sink: &mut K,
-) -> Result<Option<Keys>, Status>
+) -> Result<Option<KeyFile>, Status>
     ensures gives { GivesKeys F.Files K.Sink keys.now (reading files.old sink.old) (reading files.new sink.new) result }
     ensures asks { F.tells → AsksNames (listed keys.now) (F.asked files.old) (F.asked files.new) result }
     ensures stays { F.tells → (file : List ℕ) → F.holds files.new file ≡ F.holds files.old file }
@@ -94,7 +94,7 @@ fn take_keys<F: Files, K: Sink>(
         return Ok(None);
     };
     match read_keys(alloc, files, name.text()) {
-        Ok(keys) => Ok(Some(keys)),
+        Ok(file) => Ok(Some(file)),
         Err(Unkeyed::Refused(refusal)) => Err(say_keys_refusal(alloc, sink, refusal)),
         Err(Unkeyed::FileFault) => Err(Status::FILE_FAULT),
         Err(Unkeyed::NoMemory) => Err(Status::NO_MEMORY),

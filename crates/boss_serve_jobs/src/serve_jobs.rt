@@ -6,6 +6,7 @@ ghost use Rattle.boss_server.specs.Sites.{gates_of};
 ghost use Rattle.boss_serve_jobs.specs.ServeJobs.{all_at_end, all_at_start, DoesServe, ServesInMemory};
 ghost use Rattle.boss_serve_jobs.specs.Serving.{at_end, at_start, Listened, ServesOver};
 
+use crate::keying::parted;
 use crate::preparing::prepare;
 use crate::serving::{serve_in_memory, serve_on_disks};
 use crate::world::{Service, Surroundings, World};
@@ -61,7 +62,7 @@ where
         spawner,
         ..
     } = world;
-    let (catalogue, rules, keys) = match prepare(
+    let (catalogue, rules, file) = match prepare(
         alloc,
         name,
         service.rules,
@@ -74,10 +75,12 @@ where
         Ok(made) => made,
         Err(status) => return status,
     };
+    let (keys, reserve) = parted(file);
     let site = Site {
         catalogue: &catalogue,
         rules,
         keys,
+        reserve,
     };
     let surroundings = Surroundings {
         sink,
@@ -190,7 +193,7 @@ where
         spawner,
         ..
     } = world;
-    let (catalogue, rules, keys) = match prepare(
+    let (catalogue, rules, file) = match prepare(
         alloc,
         name,
         service.rules,
@@ -203,10 +206,12 @@ where
         Ok(made) => made,
         Err(status) => return status,
     };
+    let (keys, reserve) = parted(file);
     let site = Site {
         catalogue: &catalogue,
         rules,
         keys,
+        reserve,
     };
     let surroundings = Surroundings {
         sink,

@@ -32,7 +32,6 @@ use boss_model::{LOG_LIMIT, NoMemory};
 use boss_opening::open;
 use boss_outside::{Actuators, Failed, Sink};
 use boss_outside_server::{Announcement, Clock, Host, Spawner, Waiter};
-use boss_points::Catalogue;
 use boss_server::{Ended, Outside, Site, serve_ringing};
 use std::alloc::Global;
 use std::sync::Wait;
@@ -242,9 +241,7 @@ where
         Ok(()) => {
             let standing = keeper.standing();
             outside.clock.begin(standing.now);
-            outside
-                .host
-                .announce(announcement(site.catalogue, standing));
+            outside.host.announce(announcement(&site, standing));
             let (keeper, ended) = serve_ringing(
                 rt,
                 alloc,
@@ -264,12 +261,13 @@ where
 }
 
 /// What a server says where it begins to listen.
-fn announcement(catalogue: &Catalogue, standing: Standing) -> Announcement {
+fn announcement(site: &Site<'_>, standing: Standing) -> Announcement {
     Announcement {
-        points: catalogue.count(),
-        drivers: catalogue.drivers(),
+        points: site.catalogue.count(),
+        drivers: site.catalogue.drivers(),
         events: standing.events,
         now: standing.now,
+        reserve: site.reserve,
     }
 }
 

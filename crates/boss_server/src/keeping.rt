@@ -122,6 +122,7 @@ where
         catalogue,
         rules,
         keys,
+        reserve: _,
     } = site;
     serve_by(
         rt,

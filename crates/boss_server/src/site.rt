@@ -11,4 +11,6 @@ pub struct Site<'a> {
     pub rules: Option<Rules>,
     /// The keys by which whoever connects shows who it is, if there are such.
     pub keys: Option<Keys>,
+    /// How many of the workers are kept for whoever shows a key: the host is told so, and heeds it.
+    pub reserve: u32,
 }

@@ -7,7 +7,7 @@ use crate::asking::{ALL, GOOD, Machine, is_line_done, prepare};
 use crate::connection::{Connection, Fails, NONE_FAILS};
 use crate::pieces::Piece;
 use crate::texts::{compare, push_line, push_lines, push_sent};
-use boss_keys::Keys;
+use boss_keys::{KeyFile, Keys};
 use boss_model::SessionId;
 use boss_points::Catalogue;
 use boss_sessions::SessionEnd;
@@ -819,7 +819,11 @@ fn keys_of(rt: &impl Abort, alloc: Global, text: &str) -> Option<Keys> {
     if text.is_empty() {
         return None;
     }
-    Some(Keys::read(alloc, text.as_bytes()).expect(rt, "keys"))
+    Some(
+        KeyFile::read(alloc, text.as_bytes())
+            .expect(rt, "keys")
+            .keys,
+    )
 }
 
 /// A connection on which these lines come.

@@ -1,4 +1,4 @@
-use boss_keys::{Keys, KeysRefusal, refusal_line};
+use boss_keys::{KeyFile, KeysRefusal, refusal_line};
 use boss_model::Name;
 use std::alloc::Global;
 use std::process::Abort;
@@ -200,7 +200,9 @@ const SHOWN: &[(&str, &str, &str, bool)] = &[
 fn a_key_is_right_for_its_names(rt: HostRuntime) {
     let alloc = rt.alloc();
     for (file, name, key, wanted) in SHOWN {
-        let keys = Keys::read(alloc, file.as_bytes()).expect(&rt, "keys");
+        let keys = KeyFile::read(alloc, file.as_bytes())
+            .expect(&rt, "keys")
+            .keys;
         let process = Name::new(name.as_bytes()).expect(&rt, "a name");
         let right = keys.admits(&process, key.as_bytes());
         assert_eq!(&rt; right, *wanted, "{name} {key}");
@@ -351,7 +353,7 @@ const REFUSED: &[(&str, &str)] = &[
 
 /// Whether a file is refused, and this line says why.
 fn is_refused(rt: &impl Abort, alloc: Global, file: &[u8], wanted: &str) -> bool {
-    match Keys::read(alloc, file) {
+    match KeyFile::read(alloc, file) {
         Ok(_keys) => false,
         Err(refusal) => line_of(rt, alloc, refusal).as_slice() == wanted.as_bytes(),
     }
@@ -402,7 +404,9 @@ fn refuses_an_entry_too_many(rt: HostRuntime) {
 #[test]
 fn the_last_of_as_many_as_there_may_be_is_right(rt: HostRuntime) {
     let file = keys_of(&rt, rt.alloc(), 512);
-    let keys = Keys::read(rt.alloc(), file.as_bytes()).expect(&rt, "keys");
+    let keys = KeyFile::read(rt.alloc(), file.as_bytes())
+        .expect(&rt, "keys")
+        .keys;
     let comfort = Name::new(b"comfort").expect(&rt, "a name");
     assert!(rt; keys.admits(&comfort, COMFORT.as_bytes()));
     assert!(rt; !keys.admits(&comfort, NEXT.as_bytes()));
@@ -422,7 +426,10 @@ const ACCEPTED: &[&str] = &[
 #[test]
 fn accepts_the_bounds(rt: HostRuntime) {
     for file in ACCEPTED {
-        assert!(rt; Keys::read(rt.alloc(), file.as_bytes()).is_ok(), "{file}");
+        assert!(rt;
+            KeyFile::read(rt.alloc(), file.as_bytes()).is_ok(),
+            "{file}"
+        );
     }
 }
 

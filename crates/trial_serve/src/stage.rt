@@ -7,7 +7,7 @@ use crate::connections::{Connections, Talk, count, host, tell_talks};
 use crate::texts::{put, put_number, tell_end};
 use boss_access::{Rules, RulesRefusal};
 use boss_disk::MemoryDisk;
-use boss_keys::{Keys, KeysRefusal};
+use boss_keys::{KeyFile, Keys, KeysRefusal};
 use boss_manager::{Service, Site, Status, Surroundings, serve_in_memory, serve_on_disks};
 use boss_model::Items;
 use boss_outside::{BytesSink, BytesSource, SimActuators};
@@ -99,8 +99,8 @@ fn keys(alloc: Global, text: &str) -> Result<Option<Keys>, KeysRefusal> {
     if text.is_empty() {
         return Ok(None);
     }
-    match Keys::read(alloc, text.as_bytes()) {
-        Ok(keys) => Ok(Some(keys)),
+    match KeyFile::read(alloc, text.as_bytes()) {
+        Ok(file) => Ok(Some(file.keys)),
         Err(refusal) => Err(refusal),
     }
 }
@@ -143,6 +143,7 @@ fn serve<R: Abort + Threads + Wait + Sync>(
         catalogue,
         rules,
         keys,
+        reserve: 0,
     };
     serve_in_memory(rt, alloc, site, service, surroundings)
 }
@@ -230,6 +231,7 @@ fn serve_kept<R: Abort + Threads + Wait + Sync>(
         catalogue,
         rules: None,
         keys: None,
+        reserve: 0,
     };
     serve_on_disks(rt, alloc, site, disks.0, disks.1, service, surroundings)
 }

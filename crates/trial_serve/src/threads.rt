@@ -58,6 +58,7 @@ where
         catalogue,
         rules: None,
         keys: None,
+        reserve: 0,
     };
     serve_in_memory(rt, alloc, site, service, surroundings)
 }
