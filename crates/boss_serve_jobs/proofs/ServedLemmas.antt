@@ -100,7 +100,7 @@ module _ {K A H In Out C W Bells P Runtime : Type 0} (k : sink.Ghosts K) (a : ac
   served-parts (Ended ended) ends told = inr (inr (record {
     flags = ended.flags;
     unstarted = ended.unstarted;
-    worked = record { bound = ends.bound; listens = ends.listens; account = ends.account; started = ends.started; disk = ends.disk };
+    worked = record { bound = ends.bound; listens = ends.listens; account = ends.account; started = ends.started; disk = ends.disk; keyed = ends.keyed };
     summary = λ whole. record {
       all = all;
       all_are = all-are whole;

@@ -3,7 +3,7 @@
 use denote.Ref.{MutBor}
 use Rattle.std.specs.declared.alloc.Global.{Global}
 use Rattle.std.specs.declared.vec.Vec.{Vec}
-use Rattle.std.specs.Prelude.{◌≡◌, ◌⊎◌, ℕ, ◌+◌, ◌<◌, true, false, nat_eq, Bool, ◌||◌, if◌then◌else◌, List, [], ◌∷◌, ◌++◌, length, take, drop, Option}
+use Rattle.std.specs.Prelude.{◌≡◌, ◌⊎◌, ℕ, ◌+◌, ◌<◌, true, false, nat_eq, Bool, ◌||◌, if◌then◌else◌, List, [], ◌∷◌, ◌++◌, length, take, drop, Option, Some}
 use Rattle.std.specs.List.{AllByRecursion}
 use Rattle.boss_model.specs.Catalogue.{Catalogue, actuators}
 use Rattle.boss_model.specs.declared.event.Event.{Event}
@@ -25,6 +25,7 @@ use Rattle.def_history.specs.History.{events, is_broken, IsLegal, run}
 use Rattle.boss_shared.specs.declared.keeper.Keeper as keeper
 use Rattle.boss_shared.specs.Keeping.{IsHeld}
 use Rattle.boss_worker.specs.declared.flags.Flags.{Flags}
+use Rattle.boss_worker.specs.Keyed.{AreByKeys}
 use Rattle.boss_worker.specs.Saying.{terms_of}
 use Rattle.boss_keys.specs.declared.entry.Entry.{Entry as KeyEntry}
 use Rattle.boss_shared.specs.Gates.{Gate}
@@ -177,6 +178,9 @@ module _ {A H In Out C W Bells P Runtime : Type 0} (a : actuators_of.Ghosts A) (
         (take (drives_of catalogue old.devices) old.devices) (drop (drives_of catalogue old.devices) old.devices) new.devices flags unstarted
     pub started : RoseWhere unstarted (p.faults old.spawner) (p.faults new.spawner)
     pub disk : flags.disk ≡ is_broken log
+    -- With keys, each connection is that of the name whose key one of its lines shows: all its attaches are of that name. Where none was shown,
+    -- nothing was done for it.
+    pub keyed : (known : List KeyEntry) → keys ≡ Some known → i.tells → AreByKeys (actuators catalogue) known log account.works
 
   -- how workers ran, or why none did
   abbrev pub EndsRun : Catalogue → List Gate → Option (List KeyEntry) → ℕ → ℕ → List Entry → Outside (Unit {0}) A H C W P → Outside (Unit {0}) A H C W P → Run → Type 0
