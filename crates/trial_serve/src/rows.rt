@@ -417,6 +417,30 @@ events 0 now 0 leases 0 pending 0
 status 0
 "#,
     },
+    // The first worker has the sessions 1 and 3, the second one 2.
+    Row {
+        shows: "each worker asks for keys, of each of its connections anew",
+        setting: Setting {
+            workers: &[&[ASKS, LOOK], &[ANOTHER_LATER]],
+            moments: &[0],
+            keys: TWO_KEYS,
+            ..PLAIN
+        },
+        told: r#"session 1
+{"ok":"read","point":"lamp","value":0,"from":"default","mark":"pending"}
+{"ok":"read","point":"lamp","value":0,"from":"default","mark":"pending"}
+session 3
+{"error":"wrong-key"}
+session 2
+{"ok":"read","point":"lamp","value":0,"from":"default","mark":"pending"}
+{"error":"wrong-key"}
+pauses 0
+pauses 0
+pauses 1 closed
+events 0 now 0 leases 0 pending 0
+status 0
+"#,
+    },
     Row {
         shows: "without keys a key is passed over, a wrong one too",
         setting: Setting {
