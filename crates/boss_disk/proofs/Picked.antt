@@ -1,4 +1,4 @@
-use Rattle.std.proofs.Common.{◌≡◌, ℕ, ◌+◌, ◌≤◌, ◌<◌, List, [], length, get_or, Option, Some, None, inl, inr, ⊎_elim, sym, ◌∙◌, ap, subst, arith, set, Result, Ok, Err, IfOk}
+use Rattle.std.proofs.Common.{◌≡◌, ℕ, Bool, ◌+◌, ◌≤◌, ◌<◌, List, [], length, get_or, Option, Some, None, inl, inr, ⊎_elim, sym, ◌∙◌, ap, subst, arith, set, Result, Ok, Err, IfOk}
 use Rattle.std.proofs.lemmas.Bool.{cases_lt, cases_eq}
 use Rattle.std.proofs.lemmas.List.{ext_get_or, get_or_past, length-set, get_or-set_same, get_or-set_other}
 use Rattle.boss_disk.specs.declared.failures.Failures.{Failures}
@@ -68,8 +68,8 @@ written_more at count marks inside =
     (λ place low. ⊎_elim (mark_here at count marks place inside) (mark_elsewhere at count marks place) (cases_eq place (at + count)))
 
 -- a disk that starts with an image
-pub starts_with : {E : Type 0} (window : Window) (contents : List ℕ) (failures : Failures) (result : Result DiskRecord E)
-    → IsImage window contents → IfOk result (λ disk. disk ≡ record { start = contents; calls = []; failures = failures })
+pub starts_with : {E : Type 0} (window : Window) (contents : List ℕ) (failures : Failures) (is_whole : Bool) (result : Result DiskRecord E)
+    → IsImage window contents → IfOk result (λ disk. disk ≡ record { start = contents; calls = []; failures = failures; is_whole = is_whole })
     → IfOk result (λ disk. IsImage window disk.start)
-starts_with window contents failures (Ok disk) image is = subst (IsImage window) (sym (ap (λ (d : DiskRecord). d.start) is)) image
-starts_with window contents failures (Err e) image is = tt
+starts_with window contents failures is_whole (Ok disk) image is = subst (IsImage window) (sym (ap (λ (d : DiskRecord). d.start) is)) image
+starts_with window contents failures is_whole (Err e) image is = tt

@@ -1,11 +1,11 @@
-use Rattle.std.proofs.Common.{◌≡◌, ℕ, List, [], ◌∷◌, ◌++◌, length, drop, Result, Ok, Err, sym, ◌∙◌, ap, subst, refl, append_assoc, ⊎_elim, inl, inr, OnOk, rules}
+use Rattle.std.proofs.Common.{◌≡◌, ℕ, ◌⊎◌, Bool, true, false, List, [], ◌∷◌, ◌++◌, length, drop, Result, Ok, Err, sym, ◌∙◌, ap, subst, refl, append_assoc, ⊎_elim, inl, inr, OnOk, rules}
 use Rattle.std.specs.List.{All, Contains}
 use Rattle.std.proofs.lemmas.List.{drop_at}
 use Rattle.std.proofs.lemmas.List.Elements.{All-nil, All-append, All-push, All-weaker, All-contains}
 use Rattle.boss_disk.specs.Window.{Window, settled, after_write, overwritten}
 use Rattle.boss_disk.specs.Images.{torn_holds}
 use Rattle.boss_disk.proofs.Torn.{settled_image}
-use Rattle.boss_disk.specs.Story.{Story, Moves, Steps, MayLeave}
+use Rattle.boss_disk.specs.Story.{Story, Moves, Steps, WritesWhole, MayLeave}
 use Rattle.boss_disk.specs.Runs.{Through, Leaves, Since, OfWrite, WritesThrough}
 
 -- a run of no call
@@ -88,3 +88,23 @@ write_leaves {T} {E} P at bytes held old new result run torn done =
     (λ same. subst (Leaves P) (sym same) (λ image is. subst P (sym (settled_image (overwritten at bytes held) image is)) done)))
     of)
     run.windows
+
+still_or_moved : (P : List ℕ → Type 0) (next : Window) (old new : Story) → Since P old old → Leaves P next
+    → (new ≡ old) ⊎ Moves next old new → Since P old new
+still_or_moved P next old new here there went =
+    ⊎_elim (λ still. subst (Since P old) (sym still) here) (λ moved. moves_on {Q = Leaves P} old old new here moved there) went
+
+whole_by : {E : Type 0} (P : List ℕ → Type 0) (at : ℕ) (bytes held now : List ℕ) (old new : Story) (result : Result Bool E)
+    → WritesWhole at bytes held now old new result → Since P old old → Leaves P (settled (overwritten at bytes held)) → Since P old new
+whole_by P at bytes held now old new (Ok true) run here there = still_or_moved P _ old new here there (inr (run.done refl).1)
+whole_by P at bytes held now old new (Ok false) run here there = still_or_moved P _ old new here there (inl (run.passed refl).1)
+whole_by P at bytes held now old new (Err e) run here there = still_or_moved P _ old new here there run.failed
+
+-- what is sure of what a crash may leave before bytes are written whole, and of the bytes once written, is sure all the way
+pub whole_leaves : {E : Type 0} (P : List ℕ → Type 0) (at : ℕ) (bytes held now : List ℕ) (old new : Story) (result : Result Bool E)
+    → WritesWhole at bytes held now old new result → Leaves P old.window → P (overwritten at bytes held) → Since P old new
+whole_leaves {E} P at bytes held now old new result run before done =
+    let here : Since P old old = stands old before in
+    let there : Leaves P (settled (overwritten at bytes held)) =
+    λ image is. subst P (sym (settled_image (overwritten at bytes held) image is)) done in
+    whole_by P at bytes held now old new result run here there

@@ -24,6 +24,7 @@ after_try failures failed = record {
 -- a call leaves this record, or none where it failed, and is counted
 pub record HasNoted {T E : Type 0} (call : DiskCall) (old new : DiskRecord) (result : Result T E) : Type 0 where
   pub start : new.start ≡ old.start
+  pub kind : new.is_whole ≡ old.is_whole
   pub done : OnOk result (new.calls ≡ old.calls ++ call ∷ [])
   pub failed : OnErr result (new.calls ≡ old.calls)
   pub fails : IsTrue (fails_now old.failures) → IsErr result
@@ -32,6 +33,7 @@ pub record HasNoted {T E : Type 0} (call : DiskCall) (old new : DiskRecord) (res
 -- a call that leaves no record fails where it is to, and is counted
 pub record HasRead {T E : Type 0} (old new : DiskRecord) (result : Result T E) : Type 0 where
   pub start : new.start ≡ old.start
+  pub kind : new.is_whole ≡ old.is_whole
   pub calls : new.calls ≡ old.calls
   pub fails : is_err result ≡ fails_now old.failures
   pub counted : new.failures ≡ after_try old.failures (is_err result)

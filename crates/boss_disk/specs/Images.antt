@@ -6,7 +6,7 @@ use Rattle.std.specs.List.{fold}
 use Rattle.std.proofs.lemmas.Bool.{cases_lt}
 use Rattle.std.proofs.lemmas.List.{get_or_append_left, get_or-append_right, get_or-take, get_or-drop, get_or_past, length-take-le}
 use Rattle.boss_disk.specs.declared.memory.DiskCall.{DiskCall}
-use Rattle.boss_disk.specs.declared.memory.DiskCall.TheVariants.{Write, Cut, Sync}
+use Rattle.boss_disk.specs.declared.memory.DiskCall.TheVariants.{Write, Cut, Sync, WriteWhole}
 use Rattle.boss_disk.specs.Record.{DiskState, fresh, after}
 use Rattle.boss_disk.specs.Window.{Window, Agrees, IsImage, settled, after_write, after_cut, overwritten}
 use Rattle.boss_disk.specs.Marks.{mark, agrees_from, agrees_length, agrees_at, length-written, mark-written_in, mark-written_out}
@@ -149,6 +149,10 @@ holds_after state (Cut size) held =
       synced = cut_holds size state.story.window state.synced state.synced held.synced (omega arith) (omega arith) (λ place low. refl);
     }
 holds_after state Sync held = record { bytes = settled_holds state.bytes; synced = settled_holds state.bytes }
+holds_after state (WriteWhole at bytes) held = record {
+  bytes = settled_holds (overwritten at bytes state.bytes);
+  synced = settled_holds (overwritten at bytes state.bytes);
+}
 
 pub holds_along : (state : DiskState) (calls : List DiskCall) → Holds state → Holds (fold after state calls)
 holds_along state [] held = held

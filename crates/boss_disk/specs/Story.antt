@@ -1,7 +1,7 @@
 -- Source: own.
-use Rattle.std.specs.Prelude.{◌≡◌, ℕ, ◌⊎◌, List, [], ◌∷◌, ◌++◌, drop, Result, OnOk, OnErr}
+use Rattle.std.specs.Prelude.{◌≡◌, ℕ, ◌⊎◌, Bool, true, false, List, [], ◌∷◌, ◌++◌, drop, Result, Ok, OnOk, OnErr}
 use Rattle.std.specs.List.{Contains}
-use Rattle.boss_disk.specs.Window.{Window, IsImage}
+use Rattle.boss_disk.specs.Window.{Window, IsImage, settled, overwritten}
 
 -- What a disk tells of its calls: the window now, and the windows before it, oldest first. The number of the past ones is
 -- the disk's own clock.
@@ -18,6 +18,13 @@ pub record Moves (next : Window) (old new : Story) : Type 0 where
 pub record Steps {T E : Type 0} (next failing : Window) (old new : Story) (result : Result T E) : Type 0 where
   pub done : OnOk result (Moves next old new)
   pub failed : OnErr result ((new ≡ old) ⊎ Moves failing old new)
+
+-- what a call does that writes bytes and syncs the disk, whole or not at all: it did and told so, or passed and told that; one that fails
+-- leaves the story as it was, or did what it was to do
+pub record WritesWhole {E : Type 0} (at : ℕ) (bytes held now : List ℕ) (old new : Story) (result : Result Bool E) : Type 0 where
+  pub done : result ≡ Ok true → (now ≡ overwritten at bytes held) × Moves (settled (overwritten at bytes held)) old new
+  pub passed : result ≡ Ok false → (now ≡ held) × (new ≡ old)
+  pub failed : OnErr result ((new ≡ old) ⊎ Moves (settled (overwritten at bytes held)) old new)
 
 -- a crash at some moment from this one on may leave these bytes
 abbrev pub MayLeave : Story → ℕ → List ℕ → Type 0

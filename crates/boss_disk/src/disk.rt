@@ -1,7 +1,7 @@
-ghost use Rattle.std.specs.Prelude.{◌≡◌, ℕ, ◌+◌, ◌≤◌, ◌<◌, ◌^◌, List, length, take, drop, OnOk, IfOk, IsErr};
+ghost use Rattle.std.specs.Prelude.{◌≡◌, ℕ, ◌+◌, ◌≤◌, ◌<◌, ◌^◌, List, length, take, drop, Ok, true, OnOk, IfOk, IsErr};
 ghost use Rattle.boss_outside.specs.Counts.{HasCause};
 ghost use Rattle.boss_disk.specs.Runs.{WritesThrough};
-ghost use Rattle.boss_disk.specs.Story.{Story, Steps};
+ghost use Rattle.boss_disk.specs.Story.{Story, Steps, WritesWhole};
 ghost use Rattle.boss_disk.specs.Window.{IsImage, settled, after_write, after_cut, overwritten};
 
 use boss_outside::Failed;
@@ -58,6 +58,17 @@ pub trait Disk {
         ensures bytes { tells → reads self.new ≡ reads self.old }
         ensures windows { tells → Steps (settled (reads self.old)) (story self.old).window (story self.old) (story self.new) result }
         ensures cause { HasCause (faults self.old) (faults self.new) result };
+
+    /// Puts these bytes at this place and syncs the disk, whole or not at all, and tells whether it did. `false`: it can't do that with
+    /// these bytes, and all is as it was. After a failure all is as it was, or was done. A disk that a crash may tear never does it.
+    fn write_whole(&mut self, at: u64, bytes: &[u8]) -> Result<bool, Failed>
+        requires { tells → at ≤ length (reads self.old) }
+        ensures limit { result ≡ Ok true → at + length bytes.now ≤ 2 ^ 62 }
+        ensures windows { tells → WritesWhole at bytes.now (reads self.old) (reads self.new) (story self.old) (story self.new) result }
+        ensures cause { HasCause (faults self.old) (faults self.new) result }
+    {
+        Ok(false)
+    }
 
     /// A crash may leave what a read gives.
     ghost reads_stay: { (disk : Self) → tells → IsImage (story disk).window (reads disk) };

@@ -14,7 +14,9 @@ pub fn replay(held: &mut Vec<u8>, calls: &[DiskCall]) -> Result<(), AllocError>
 {
     for call in calls {
         match call {
-            DiskCall::Write { at, bytes } => overwrite(held, *at as usize, bytes.slice())?,
+            DiskCall::Write { at, bytes } | DiskCall::WriteWhole { at, bytes } => {
+                overwrite(held, *at as usize, bytes.slice())?
+            }
             DiskCall::Cut { size } => held.truncate(*size as usize),
             DiskCall::Sync => {}
         }
@@ -57,7 +59,7 @@ fn forget_calls(stays: &mut Vec<Option<u8>>, calls: &[DiskCall])
         match call {
             DiskCall::Write { at, bytes } => forget(stays, *at as usize, bytes.slice().len()),
             DiskCall::Cut { size } => stays.truncate(*size as usize),
-            DiskCall::Sync => {}
+            DiskCall::Sync | DiskCall::WriteWhole { .. } => {}
         }
     }
 }

@@ -1,12 +1,12 @@
-ghost use Rattle.std.specs.Prelude.{◌≡◌, ℕ, ◌+◌, ◌^◌, ◌≤◌, ◌<◌, ◌∷◌, [], ◌++◌, List, length, take, drop, OnOk, OnErr, IfOk, IsErr, vec_len, vec_capacity};
+ghost use Rattle.std.specs.Prelude.{◌≡◌, ℕ, ◌+◌, ◌^◌, ◌≤◌, ◌<◌, ◌∷◌, [], ◌++◌, List, length, take, drop, Ok, true, false, OnOk, OnErr, IfOk, IsErr, vec_len, vec_capacity};
 ghost use Rattle.std.specs.List.{fold};
 ghost use Rattle.boss_outside.specs.Counts.{HasCause};
 ghost use Rattle.boss_outside.specs.Plan.{new_plan};
-ghost use Rattle.boss_disk.specs.declared.memory.DiskCall.TheVariants.{Write, Cut, Sync};
+ghost use Rattle.boss_disk.specs.declared.memory.DiskCall.TheVariants.{Write, Cut, Sync, WriteWhole};
 ghost use Rattle.boss_disk.specs.Calls.{HasNoted, HasRead};
 ghost use Rattle.boss_disk.specs.Picked.{IsPicked};
 ghost use Rattle.boss_disk.specs.Record.{state_of};
-ghost use Rattle.boss_disk.specs.Story.{Steps};
+ghost use Rattle.boss_disk.specs.Story.{Steps, WritesWhole};
 ghost use Rattle.boss_disk.specs.Window.{IsImage, settled, after_write, after_cut, overwritten};
 
 use crate::Disk;
@@ -29,9 +29,11 @@ pub enum DiskCall {
     Cut { size: u64 },
     /// What was written and cut outlasts a crash.
     Sync,
+    /// These bytes were written from this place on and synced, whole.
+    WriteWhole { at: u64, bytes: Items<u8> },
 }
 
-/// A disk in memory, with a record of its calls.
+/// A disk in memory, with a record of its calls. It is one that a crash may tear, or one that writes bytes whole.
 #[derive(Debug, Drop)]
 pub struct MemoryDisk {
     alloc: Global,
@@ -40,6 +42,7 @@ pub struct MemoryDisk {
     calls: Vec<DiskCall>,
     settled: usize,
     failures: Failures,
+    is_whole: bool,
 }
 
 impl Model for MemoryDisk {
@@ -48,13 +51,13 @@ impl Model for MemoryDisk {
 
     ghost Value = { DiskRecord };
 
-    ghost view = { λ d. record { start = d.start; calls = d.calls.items; failures = d.failures } };
+    ghost view = { λ d. record { start = d.start; calls = d.calls.items; failures = d.failures; is_whole = d.is_whole } };
 
     ghost invariant = { λ d. IsKept d.start d.bytes.items d.calls.items d.settled };
 }
 
 impl MemoryDisk {
-    /// A disk of these bytes, synced, of which the calls with these numbers fail, counted from 1. It takes memory for a
+    /// A disk of these bytes, synced, that a crash may tear, of which the calls with these numbers fail, counted from 1. It takes memory for a
     /// second copy of the bytes, and has none for more than `2 ^ 62`.
     pub fn new(
         alloc: Global,
@@ -65,6 +68,24 @@ impl MemoryDisk {
           start = contents;
           calls = [];
           failures = record { plan = new_plan fails; left = None };
+          is_whole = false;
+        }) }
+    {
+        MemoryDisk::of_kind(alloc, contents, fails, false)
+    }
+
+    /// The same, one that writes bytes whole or not.
+    fn of_kind(
+        alloc: Global,
+        contents: Items<u8>,
+        fails: Items<u64>,
+        is_whole: bool,
+    ) -> Result<MemoryDisk, NoMemory>
+        ensures { IfOk result (λ disk. disk ≡ record {
+          start = contents;
+          calls = [];
+          failures = record { plan = new_plan fails; left = None };
+          is_whole = is_whole;
         }) }
     {
         if contents.slice().len() as u64 > MOST {
@@ -78,7 +99,15 @@ impl MemoryDisk {
             calls: Vec::new(alloc),
             settled: 0,
             failures: Failures::new(fails),
+            is_whole,
         })
+    }
+
+    /// From now on it writes bytes whole where it is asked to.
+    pub fn make_whole(&mut self)
+        ensures { self.new ≡ record self.old { is_whole = true } }
+    {
+        self.is_whole = true;
     }
 
     /// How many of its calls failed.
@@ -102,7 +131,7 @@ impl MemoryDisk {
         self.failures.stop_after(calls);
     }
 
-    /// A disk of what a crash may leave of this one now, of which no call fails. 0 picks what the last sync left. Any other
+    /// A disk of what a crash may leave of this one now, of the same kind, of which no call fails. 0 picks what the last sync left. Any other
     /// number picks an image of the present length, in which each byte that need not stay is as it is now for 1, 255 less
     /// that for 2, and else as it is now where the bit of the number at its place (modulo 64) is set, and 0 elsewhere.
     pub fn image(&self, alloc: Global, pick: u64) -> Result<MemoryDisk, NoMemory>
@@ -112,10 +141,11 @@ impl MemoryDisk {
           start = image.start;
           calls = [];
           failures = record { plan = new_plan []; left = None };
+          is_whole = self.now.is_whole;
         }) }
     {
         let contents = self.contents(alloc, pick)?;
-        MemoryDisk::new(alloc, contents, Items::new(alloc))
+        MemoryDisk::of_kind(alloc, contents, Items::new(alloc), self.is_whole)
     }
 
     /// The bytes of the image that a number picks.
@@ -229,6 +259,39 @@ impl Disk for MemoryDisk {
         }
         self.settled = self.calls.len();
         Ok(())
+    }
+
+    fn write_whole(&mut self, at: u64, bytes: &[u8]) -> Result<bool, Failed>
+        requires { at ≤ length (state_of self.old).bytes }
+        ensures limit { result ≡ Ok true → at + length bytes.now ≤ 2 ^ 62 }
+        ensures windows { WritesWhole at bytes.now (state_of self.old).bytes (state_of self.new).bytes (state_of self.old).story (state_of self.new).story result }
+        ensures cause { HasCause self.old.failures.plan.faults self.new.failures.plan.faults result }
+        ensures kind { IfOk result (λ done. done ≡ self.old.is_whole) }
+        ensures noted { self.old.is_whole ≡ true → HasNoted (WriteWhole at bytes.now) self.old self.new result }
+        ensures passed { self.old.is_whole ≡ false → self.new ≡ self.old }
+    {
+        if !self.is_whole {
+            return Ok(false);
+        }
+        self.failures.call()?;
+        let Some(end) = at.checked_add(bytes.len() as u64) else {
+            return Err(self.failures.fault());
+        };
+        if end > MOST {
+            return Err(self.failures.fault());
+        }
+        let Ok(kept) = bytes.to_vec(self.alloc) else {
+            return Err(self.failures.fault());
+        };
+        if self.calls.reserve(1).is_err()
+            || overwrite(&mut self.bytes, at as usize, bytes).is_err()
+        {
+            return Err(self.failures.fault());
+        }
+        let bytes = Items::from_vec(kept);
+        push_in_room(&mut self.calls, DiskCall::WriteWhole { at, bytes });
+        self.settled = self.calls.len();
+        Ok(true)
     }
 }
 
