@@ -1,6 +1,6 @@
 -- What a frame is made of, and how long it is.
-use Rattle.std.proofs.Common.{◌≡◌, ℕ, ◌+◌, List, [], ◌∷◌, ◌++◌, length, take, drop, set, refl, sym, ap, ◌∙◌, append_assoc, length-append, length-drop, arith}
-use Rattle.std.proofs.lemmas.List.{take_at, drop_at, set_at}
+use Rattle.std.proofs.Common.{◌≡◌, ℕ, ◌+◌, ◌-◌, ◌≤◌, List, [], ◌∷◌, ◌++◌, length, take, drop, set, refl, sym, ap, ◌∙◌, append_assoc, append-nil, length-append, length-drop, arith}
+use Rattle.std.proofs.lemmas.List.{take_at, take_all, drop_at, drop_all, set_at}
 use Rattle.std.specs.Int.{w32, to_be_bytes}
 use Rattle.def_log.specs.Log.{framed, spelled}
 
@@ -40,6 +40,16 @@ framed_pieces a b r into n k big here copied same room =
     ∙ ap (λ l. l ++ b ++ 0 ∷ []) big
     ∙ ap (λ m. to_be_bytes w32 m ++ b ++ 0 ∷ []) here
     ∙ ap (λ l. to_be_bytes w32 (length r) ++ l ++ 0 ∷ []) copied
+
+-- a gate before a piece that fills the rest of a room
+pub gated_room : (room piece : List ℕ) → 1 ≤ length room
+    → take 1 (set room 0 1) ++ (piece ++ drop (length (set room 0 1) - 1) (drop 1 (set room 0 1))) ≡ 1 ∷ piece
+gated_room [] piece some = absurd (omega arith)
+gated_room (x ∷ room) piece some = ap (λ l. 1 ∷ (piece ++ l)) (drop_all (length (1 ∷ room) - 1) room (omega arith)) ∙ ap (λ l. 1 ∷ l) (append-nil piece)
+
+-- what stands behind it
+pub behind_first : (gated piece : List ℕ) → gated ≡ 1 ∷ piece → take (length gated - 1) (drop 1 gated) ≡ piece
+behind_first gated piece is = ap (λ l. take (length l - 1) (drop 1 l)) is ∙ take_all (length (1 ∷ piece) - 1) piece (omega arith)
 
 pub length-framed : (r : List ℕ) → length (framed r) ≡ length r + 4
 unfolding framed

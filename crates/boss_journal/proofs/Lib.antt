@@ -7,3 +7,4 @@ pub mod FirstBytes
 pub mod NewJournals
 pub mod OpeningRuns
 pub mod CleanLogs
+pub mod BothWays

@@ -24,7 +24,7 @@ drop_place front rs place reads at =
     ∙ drop_at (front ++ spelled rs) (at.gate ∷ at.tail) place (sym at.here)
 
 -- at least one more
-some_more : (l : List ℕ) → 0 < length l → (x : ℕ) × (more : List ℕ) × (l ≡ x ∷ more)
+pub some_more : (l : List ℕ) → 0 < length l → (x : ℕ) × (more : List ℕ) × (l ≡ x ∷ more)
 some_more [] many = absurd (omega arith)
 some_more (x ∷ l) many = (x, l, refl)
 

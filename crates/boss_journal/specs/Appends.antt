@@ -1,9 +1,12 @@
 -- Source: own.
 -- What an append leaves, and what its answers tell.
-use Rattle.std.specs.Prelude.{◌≡◌, ◌≢◌, ℕ, ◌⊎◌, Bool, true, false, List, [], ◌∷◌, ◌++◌}
+use Rattle.std.specs.Prelude.{◌≡◌, ◌≢◌, ℕ, ◌+◌, ◌<◌, ◌⊎◌, Bool, true, false, List, [], ◌∷◌, ◌++◌, length, Result, OnOk}
 use Rattle.boss_outside.specs.Counts.{Rose}
 use Rattle.boss_journal.specs.declared.appending.Appended.{Appended}
 use Rattle.boss_journal.specs.declared.appending.Appended.TheVariants.{Done, DiskFault, Stopped}
+use Rattle.boss_disk.specs.Runs.{Since}
+use Rattle.boss_disk.specs.Story.{Story}
+use Rattle.boss_journal.specs.Places.{IsAtRest}
 use Rattle.def_log.specs.Log.{framed, spelled}
 
 -- a front, these records, and a gate that is 0
@@ -22,6 +25,15 @@ pub record IsOpening (front : List ℕ) (records : List (List ℕ)) (record_byte
 abbrev pub BeforeOrAfter : List ℕ → List (List ℕ) → List ℕ → List ℕ → Type 0
 BeforeOrAfter front records record_bytes bytes =
     IsShutLog front records bytes ⊎ (IsOpening front records record_bytes bytes ⊎ IsShutLog front (records ++ record_bytes ∷ []) bytes)
+
+-- A record was put at a gate of a log at rest, whatever its front and records are: where that was told as done it stands there, and
+-- the log is at rest; and a crash leaves the log as it was before, or with the record.
+pub record Puts {T E : Type 0} (record_bytes : List ℕ) (place : ℕ) (held now : List ℕ) (old new : Story) (result : Result T E) : Type 0 where
+  pub rests : (front : List ℕ) (records : List (List ℕ)) → IsAtRest front records place held old.window
+      → OnOk result (IsAtRest front (records ++ record_bytes ∷ []) (place + length record_bytes + 5) now new.window)
+  pub images : (front : List ℕ) (records : List (List ℕ)) → IsAtRest front records place held old.window
+      → Since (BeforeOrAfter front records record_bytes) old new
+  pub inside : OnOk result (place + length record_bytes + 5 < length now)
 
 -- a fault is told exactly where the disk's count rose
 abbrev pub AppendCause : ℕ → ℕ → Appended → Type 0

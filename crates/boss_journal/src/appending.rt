@@ -6,7 +6,7 @@ ghost use Rattle.boss_journal.specs.Places.{IsAtRest};
 ghost use Rattle.boss_journal.specs.Appends.{BeforeOrAfter, AppendCause, Stops};
 
 use crate::Journal;
-use crate::frame::{open_gate, put_frame};
+use crate::frame::put_framed;
 use boss_disk::Disk;
 use boss_outside::Failed;
 
@@ -22,7 +22,7 @@ pub enum Appended {
 }
 
 impl<D: Disk> Journal<D> {
-    /// Appends a record of 1 to 65,535 bytes, in four calls of the disk, without memory.
+    /// Appends a record of 1 to 65,535 bytes, without memory: in one call of a disk that writes it whole, and else in four.
     pub fn append(&mut self, bytes: &[u8]) -> Appended
         requires some { 1 ≤ length bytes.now }
         requires within { length bytes.now ≤ longest_record }
@@ -56,7 +56,7 @@ impl<D: Disk> Journal<D> {
     }
 }
 
-/// Puts a record behind the gate at this place, opens the gate once the record is synced, and gives the place of the next gate.
+/// Puts a record behind the gate at this place, opens the gate, and gives the place of the next gate.
 fn put_record<D: Disk>(disk: &mut D, place: u64, bytes: &[u8]) -> Result<u64, Failed>
     requires low { place ≤ 2 ^ 62 }
     requires at_gate { D.tells → place < length (D.reads disk.old) }
@@ -72,7 +72,6 @@ fn put_record<D: Disk>(disk: &mut D, place: u64, bytes: &[u8]) -> Result<u64, Fa
         → Since (BeforeOrAfter front records bytes.now) (D.story disk.old) (D.story disk.new) }
     ensures cause { HasCause (D.faults disk.old) (D.faults disk.new) result }
 {
-    put_frame(disk, place + 1, bytes)?;
-    open_gate(disk, place)?;
+    put_framed(disk, place, bytes)?;
     Ok(place + bytes.len() as u64 + 5)
 }
