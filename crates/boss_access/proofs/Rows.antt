@@ -9,7 +9,7 @@ use Rattle.boss_model.specs.declared.point.Kind.TheVariants.{Analog, Binary}
 use Rattle.boss_access.specs.declared.pattern.Pattern.TheVariants.{Named, Beginning, Any}
 use Rattle.boss_access.specs.declared.refusal.RulesRefusal.TheVariants.{Missing, TooMany, BadRule}
 use Rattle.boss_access.specs.declared.rule.Rule.{Rule}
-use Rattle.boss_access.specs.Decisions.{first_denied}
+use Rattle.boss_access.specs.Decisions.{admits, first_denied}
 use Rattle.boss_access.specs.Lines.{refusal_line}
 use Rattle.boss_access.specs.Patterns.{matches, pattern_of}
 use Rattle.boss_access.specs.Reading.{rules_in}
@@ -115,6 +115,18 @@ level-0 = refl
 
 pub level-17 : told (air ∷ []) (write 0 (pos 17) ∷ []) ≡ None
 level-17 = refl
+
+-- ---- attaches
+
+-- also a rule that allows nothing, and not the first alone
+pub admits-any : (admits (air ∷ nobody ∷ []) (codes "a") ≡ true) × (admits (air ∷ nobody ∷ []) (codes "b") ≡ true)
+admits-any = (refl, refl)
+
+pub admits-named : (admits (air ∷ []) (codes "a") ≡ true) × (admits (air ∷ []) (codes "ab") ≡ false)
+admits-named = (refl, refl)
+
+pub admits-none : admits [] (codes "a") ≡ false
+admits-none = refl
 
 -- ---- patterns
 

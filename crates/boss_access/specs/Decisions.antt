@@ -1,6 +1,7 @@
 -- Source: own (first rule that is for a write decides).
--- What the rules deny. A write of a process is decided by the first rule that is for it.
+-- What the rules deny. A write of a process is decided by the first rule that is for it, and a name is admitted by any rule for it.
 use Rattle.std.specs.Prelude.{ℕ, ◌+◌, ℤ, pos, int_le, Bool, ◌&&◌, if◌then◌else◌, List, [], ◌∷◌, slice_get, Option, Some, None}
+use Rattle.std.specs.List.{list_any}
 use Rattle.std.specs.Option.{option_map_or}
 use Rattle.boss_model.specs.Catalogue.{Point}
 use Rattle.boss_model.specs.declared.command.Setting.{Setting}
@@ -42,3 +43,7 @@ denied_among index rules points process (write ∷ writes) =
 -- the gate of these rules: of a process's name and its writes, the first denied one, from 0, and its rule, from 1 or 0 for none
 abbrev pub first_denied : List Rule → List Point → List ℕ → List Setting → Option (ℕ × ℕ)
 first_denied rules points process writes = denied_among 0 rules points process writes
+
+-- a process of this name may attach: some rule is for the name, whatever it allows
+abbrev pub admits : List Rule → List ℕ → Bool
+admits rules name = list_any (λ rule. matches rule.process name) rules

@@ -4,7 +4,7 @@ ghost use Rattle.toml.specs.View.{view};
 ghost use Rattle.boss_model.specs.Catalogue.{actuators};
 ghost use Rattle.boss_model.specs.Limits.{most_writes};
 ghost use Rattle.boss_points.specs.Seen.{views};
-ghost use Rattle.boss_access.specs.Decisions.{first_denied};
+ghost use Rattle.boss_access.specs.Decisions.{admits, first_denied};
 ghost use Rattle.boss_access.specs.Limits.{most_rules};
 ghost use Rattle.boss_access.specs.Reading.{Gives, rules_of, rules_in, rules_from, at_most};
 
@@ -57,6 +57,18 @@ impl Rules {
         at_most(MOST_RULES, tables)?;
         let rules = all_rules(alloc, tables)?;
         Ok(Rules { rules })
+    }
+
+    /// Whether a process of this name may attach: some rule is for the name, whatever that rule allows.
+    pub fn admits(&self, name: &Name) -> bool
+        ensures { result ≡ admits self.now name.now }
+    {
+        for rule in &self.rules {
+            if rule.process.matches(name) {
+                return true;
+            }
+        }
+        false
     }
 
     /// The first of these writes that the process of this name may not make, by its place among them, from 0, and the rule
