@@ -8,3 +8,4 @@ pub mod Readings
 pub mod Repairs
 pub mod Findings
 pub mod Beginnings
+pub mod Confirms

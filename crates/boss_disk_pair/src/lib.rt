@@ -6,6 +6,7 @@
 mod appending;
 mod beginning;
 mod closing;
+mod confirming;
 mod forces;
 mod laws;
 mod reading;

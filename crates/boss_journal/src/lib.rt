@@ -3,6 +3,7 @@
 #![tactic(auto)]
 
 mod appending;
+mod confirming;
 mod frame;
 mod heading;
 mod journal;
