@@ -2,9 +2,10 @@
 -- What the outcome of a call says, apart from what stands in the history.
 use Rattle.std.specs.Prelude.{◌≡◌, ℕ, zero, suc, ◌<◌, Bool, true, false, List, [], ◌∷◌, length, Option, Some, None}
 use Rattle.boss_model.specs.declared.command.Command.{Command}
+use Rattle.boss_model.specs.declared.command.Command.TheVariants as command
 use Rattle.boss_model.specs.Catalogue.{Catalogue}
 use Rattle.boss_model.specs.Tellable.{IsTellable}
-use Rattle.def_history.specs.Made.{is_growing, is_submit}
+use Rattle.def_history.specs.Made.{is_growing}
 use Rattle.def_history.specs.declared.outcome.Outcome.{Outcome}
 use Rattle.def_history.specs.declared.outcome.Outcome.TheVariants.{Done, Stopped, DiskFault, NoMemory, Denied}
 
@@ -32,13 +33,19 @@ MayWant command DiskFault = Unit {0}
 MayWant command NoMemory = is_growing command ≡ true
 MayWant command (Denied index rule) = Unit {0}
 
--- a submit alone may be denied
+-- an attach or a submit
+abbrev pub is_judged : Command → Bool
+is_judged (command.Attach name) = true
+is_judged (command.Submit writes policy seq) = true
+is_judged other = false
+
+-- no other may be denied
 abbrev pub MayDeny : Command → Outcome → Type 0
 MayDeny command (Done answer) = Unit {0}
 MayDeny command Stopped = Unit {0}
 MayDeny command DiskFault = Unit {0}
 MayDeny command NoMemory = Unit {0}
-MayDeny command (Denied index rule) = is_submit command ≡ true
+MayDeny command (Denied index rule) = is_judged command ≡ true
 
 -- the answer can be told
 abbrev pub IsTold : Catalogue → Outcome → Type 0

@@ -1,7 +1,7 @@
 -- Source: own.
--- Gates that a submit has to pass, and the process that a pass holds at each: what is denied, and what a call leaves held. A desk
--- tells a list of gates, since one may stand behind another, and a pass as many of what it holds.
-use Rattle.std.specs.Prelude.{◌≡◌, ℕ, zero, suc, ◌==◌, if◌then◌else◌, List, [], ◌∷◌, Option, Some, None}
+-- Gates that an attach and a submit have to pass, and the process that a pass holds at each: what is denied, and what a call leaves
+-- held. A desk tells a list of gates, since one may stand behind another, and a pass as many of what it holds.
+use Rattle.std.specs.Prelude.{◌≡◌, ℕ, zero, suc, ◌==◌, Bool, if◌then◌else◌, List, [], ◌∷◌, Option, Some, None}
 use Rattle.boss_model.specs.declared.answer.Answer.{Answer}
 use Rattle.boss_model.specs.declared.answer.Answer.TheVariants as answer
 use Rattle.boss_model.specs.declared.command.Command.{Command}
@@ -10,10 +10,16 @@ use Rattle.boss_model.specs.declared.command.Setting.{Setting}
 use Rattle.def_history.specs.declared.outcome.Outcome.{Outcome}
 use Rattle.def_history.specs.declared.outcome.Outcome.TheVariants.{Done, Stopped, DiskFault, NoMemory, Denied}
 
--- Of a process's name and the writes of a submit of it: the first write that is denied, from 0, and the rule, from 1, or 0
--- where no rule is for it; none where all are allowed
+-- Whether a process of this name may attach. And of a process's name and the writes of a submit of it: the first write that is denied,
+-- from 0, and the rule, from 1, or 0 where no rule is for it; none where all are allowed
 abbrev pub Gate : Type 0
-Gate = List ℕ → List Setting → Option (ℕ × ℕ)
+Gate = (List ℕ → Bool) × (List ℕ → List Setting → Option (ℕ × ℕ))
+
+abbrev pub admits : Gate → List ℕ → Bool
+admits gate = gate.0
+
+abbrev pub denied_writes : Gate → List ℕ → List Setting → Option (ℕ × ℕ)
+denied_writes gate = gate.1
 
 -- a session and the name of the process that it holds
 abbrev pub Holding : Type 0
@@ -21,10 +27,15 @@ Holding = Option (ℕ × List ℕ)
 
 -- ---- what is denied
 
--- a gate denies submits of the session that is held, and nothing else
+-- an attach that is denied has no write, and no rule is for its name: 0 and 0
+abbrev pub denied_name : Gate → List ℕ → Option (ℕ × ℕ)
+denied_name gate name = if admits gate name then None else Some (0, 0)
+
+-- a gate denies attaches, whatever is held, and submits of the session that is held, and nothing else
 abbrev pub denied_at : Gate → Holding → ℕ → Command → Option (ℕ × ℕ)
+denied_at gate held session (command.Attach name) = denied_name gate name
 denied_at gate None session asked = None
-denied_at gate (Some held) session (command.Submit writes policy seq) = if held.0 == session then gate held.1 writes else None
+denied_at gate (Some held) session (command.Submit writes policy seq) = if held.0 == session then denied_writes gate held.1 writes else None
 denied_at gate (Some held) session other = None
 
 abbrev pub or_else : Option (ℕ × ℕ) → Option (ℕ × ℕ) → Option (ℕ × ℕ)

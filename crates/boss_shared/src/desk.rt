@@ -17,7 +17,8 @@ use def_history::{Outcome, Outcomes};
 /// Where callers have their commands done, each with a pass of its own. All passes of a desk agree on one history: each has
 /// seen a beginning of it, and each entry is of one pass.
 ///
-/// A desk may have gates, which deny submits by the name of the process that the pass holds for the session.
+/// A desk may have gates, which deny attaches by the name that they ask for, and submits by the name of the process that the pass
+/// holds for the session.
 pub trait Desk {
     /// A caller's right to call.
     type Pass: Drop;
