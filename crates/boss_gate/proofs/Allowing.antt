@@ -9,7 +9,7 @@ use Rattle.boss_model.specs.declared.command.Setting.{Setting}
 use Rattle.boss_model.specs.declared.state.Actuator.{Actuator}
 use Rattle.boss_model.specs.State.{State}
 use Rattle.boss_lock.specs.Places.{entries_at}
-use Rattle.boss_shared.specs.Gates.{all_held_by, denial_of, denied_at, denied_to, held_after, held_by, or_else, AllowedAll, Gate, Holding}
+use Rattle.boss_shared.specs.Gates.{admits, all_held_by, denial_of, denied_at, denied_to, denied_writes, held_after, held_by, or_else, AllowedAll, Gate, Holding}
 use Rattle.boss_shared.specs.Passes.{Batch, Turn, TurnsBy}
 use Rattle.boss_shared.proofs.Turns.{deeds_append}
 use Rattle.boss_gate.specs.Allowed.{held_behind, held_over, AreAllowed, Judged}
@@ -35,6 +35,11 @@ same_behind : {T : Type 0} (front xs ys : List T) → front ++ xs ≡ front ++ y
 same_behind [] xs ys is = is
 same_behind (x ∷ front) xs ys is = same_behind front xs ys (cc)
 
+-- a test that denies nothing is passed
+is_admitted : (test : Bool) (denial : ℕ × ℕ) → (if test then None else Some denial) ≡ None → test ≡ true
+is_admitted true denial free = refl
+is_admitted false denial free = absurd cc
+
 module _ (gate : Gate) where
   allowed-append : (xs ys : List Entry) (held : Holding) → AreAllowed gate held xs → AreAllowed gate (held_over xs held) ys → AreAllowed gate held (xs ++ ys)
   allowed-append [] ys held first second = second
@@ -59,14 +64,22 @@ module _ (gate : Gate) where
   pub judged_submit : (own own' before behind : List Entry) (held held' : Holding) (session : ℕ) (writes : List Setting) (policy : Policy) (seq moment : ℕ)
       (answer : Answer) (name : List ℕ) → Judged gate own held own' held' →
       deeds own' ≡ deeds own ++ (before ++ Did session (command.Submit writes policy seq) moment answer ∷ behind) →
-      held_over before held ≡ Some (session, name) → gate name writes ≡ None
+      held_over before held ≡ Some (session, name) → denied_writes gate name writes ≡ None
   judged_submit own own' before behind held held' session writes policy seq moment answer name judged is holds =
       let rest : List Entry = Did session (command.Submit writes policy seq) moment answer ∷ behind in
       let made : judged.made ≡ before ++ rest = same_behind (deeds own) judged.made (before ++ rest) (sym judged.deeds_are ∙ is) in
       let there : AreAllowed gate (held_over before held) rest = allowed_behind before rest held (subst (AreAllowed gate held) made judged.allowed) in
       let free : denied_at gate (Some (session, name)) session (command.Submit writes policy seq) ≡ None =
       subst (λ (h : Holding). denied_at gate h session (command.Submit writes policy seq) ≡ None) holds there.0 in
-      sym (ap (λ (b : Bool). if b then gate name writes else None) (same_number session)) ∙ free
+      sym (ap (λ (b : Bool). if b then denied_writes gate name writes else None) (same_number session)) ∙ free
+
+  pub judged_attach : (own own' before behind : List Entry) (held held' : Holding) (session moment : ℕ) (name : List ℕ) (answer : Answer) → Judged gate own held own' held' →
+      deeds own' ≡ deeds own ++ (before ++ Did session (command.Attach name) moment answer ∷ behind) → admits gate name ≡ true
+  judged_attach own own' before behind held held' session moment name answer judged is =
+      let rest : List Entry = Did session (command.Attach name) moment answer ∷ behind in
+      let made : judged.made ≡ before ++ rest = same_behind (deeds own) judged.made (before ++ rest) (sym judged.deeds_are ∙ is) in
+      let there : AreAllowed gate (held_over before held) rest = allowed_behind before rest held (subst (AreAllowed gate held) made judged.allowed) in
+      is_admitted (admits gate name) (0, 0) there.0
 
   module _ (gates : List Gate) (plant : List Actuator) (opening : State) (seen now : List Entry) (mine own : List ℕ) where
     -- a call that did nothing

@@ -1,5 +1,6 @@
 -- Source: own.
--- What a gate says of the entries that a pass made: each submit among them was allowed for the name that was held at its place.
+-- What a gate says of the entries that a pass made: each attach among them was of a name that it admits, and each submit was allowed
+-- for the name that was held at its place.
 use Rattle.std.specs.Prelude.{◌≡◌, List, [], ◌∷◌, ◌++◌, None}
 use Rattle.boss_shared.specs.Gates.{denied_at, held_by, Gate, Holding}
 use Rattle.def_history.specs.declared.entry.Entry.{Entry}
@@ -16,7 +17,7 @@ abbrev pub held_over : List Entry → Holding → Holding
 held_over [] held = held
 held_over (entry ∷ entries) held = held_over entries (held_behind entry held)
 
--- the gate denies none of this entry's writes by what is held before it; a mark is of commands that were not done
+-- the gate does not deny this entry's command by what is held before it; a mark is of commands that were not done
 abbrev pub IsAllowedAt : Gate → Holding → Entry → Type 0
 IsAllowedAt gate held (Did session command moment answer) = denied_at gate held session command ≡ None
 IsAllowedAt gate held (Broke session commands others) = Unit {0}
@@ -25,7 +26,7 @@ abbrev pub AreAllowed : Gate → Holding → List Entry → Type 0
 AreAllowed gate held [] = Unit {0}
 AreAllowed gate held (entry ∷ entries) = IsAllowedAt gate held entry × AreAllowed gate (held_behind entry held) entries
 
--- From one time to another a pass did these: each of its submits was allowed, and what it holds is what they leave
+-- From one time to another a pass did these: each of its attaches and submits was allowed, and what it holds is what they leave
 pub record Judged (gate : Gate) (own : List Entry) (held : Holding) (own' : List Entry) (held' : Holding) : Type 0 where
   pub made : List Entry
   pub deeds_are : deeds own' ≡ deeds own ++ made

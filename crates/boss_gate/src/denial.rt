@@ -1,18 +1,30 @@
 ghost use Rattle.std.specs.Prelude.{◌≡◌};
 ghost use Rattle.std.specs.List.{AllByRecursion};
-ghost use Rattle.boss_access.specs.Decisions.{first_denied};
+ghost use Rattle.boss_gate.specs.Gates.{gate_of};
 ghost use Rattle.boss_gate.specs.Whole.{goes_whole, is_naming, is_through};
 ghost use Rattle.boss_model.specs.Catalogue.{actuators};
 ghost use Rattle.boss_model.specs.Sound.{IsAllowed};
-ghost use Rattle.boss_shared.specs.Gates.{denied_at};
+ghost use Rattle.boss_shared.specs.Gates.{denied_at, denied_name};
 ghost use Rattle.def_history.specs.History.{MayCall};
 
 use boss_access::Rules;
 use boss_model::{Command, Name, SessionId};
 use boss_points::Catalogue;
 
-/// The first write of a submit that the rules deny to the process that is held, from 0, and the rule that denies it, from 1, or 0
-/// where no rule is for it. None where the command is no submit, or the session is not the one that is held.
+/// What is told of a name that no rule is for: it has no write, and no rule, so both are 0. None where some rule is for the name.
+fn denied_name(rules: &Rules, catalogue: &Catalogue, name: &Name) -> Option<(u32, u32)>
+    ensures { result ≡ denied_name (gate_of rules.now catalogue.now.points) name.now }
+{
+    if rules.admits(name) {
+        None
+    } else {
+        Some((0, 0))
+    }
+}
+
+/// What the rules deny of a command. Of an attach its name, as 0 and 0, whatever is held. Of a submit its first write that they deny
+/// to the process that is held, from 0, and the rule that denies it, from 1, or 0 where no rule is for it. None where they allow it,
+/// or it is neither, or a submit of a session that is not the one that is held.
 pub(crate) fn denial(
     rules: &Rules,
     catalogue: &Catalogue,
@@ -21,8 +33,11 @@ pub(crate) fn denial(
     command: &Command,
 ) -> Option<(u32, u32)>
     requires { IsAllowed (actuators catalogue.now) command.now }
-    ensures { result ≡ denied_at (first_denied rules.now catalogue.now.points) held.now session command.now }
+    ensures { result ≡ denied_at (gate_of rules.now catalogue.now.points) held.now session command.now }
 {
+    if let Command::Attach { name } = command {
+        return denied_name(rules, catalogue, name);
+    }
     let Some((holder, name)) = held else {
         return None;
     };
@@ -50,7 +65,7 @@ fn is_through(
     call: &(Command, u64),
 ) -> bool
     requires { MayCall (actuators catalogue.now) call.now }
-    ensures { result ≡ is_through (first_denied rules.now catalogue.now.points) held.now session call.now }
+    ensures { result ≡ is_through (gate_of rules.now catalogue.now.points) held.now session call.now }
 {
     !is_naming(&call.0) && denial(rules, catalogue, held, session, &call.0).is_none()
 }
@@ -64,7 +79,7 @@ pub(crate) fn goes_whole(
     calls: &[(Command, u64)],
 ) -> bool
     requires { AllByRecursion (MayCall (actuators catalogue.now)) calls.now }
-    ensures { result ≡ goes_whole (first_denied rules.now catalogue.now.points) held.now session calls.now }
+    ensures { result ≡ goes_whole (gate_of rules.now catalogue.now.points) held.now session calls.now }
 {
     for call in calls {
         if !is_through(rules, catalogue, held, session, call) {

@@ -1,5 +1,5 @@
 ghost use Rattle.std.specs.Prelude.{◌≡◌, ◌∷◌, None};
-ghost use Rattle.boss_access.specs.Decisions.{first_denied};
+ghost use Rattle.boss_gate.specs.Gates.{gate_of};
 ghost use Rattle.boss_model.specs.Catalogue.{actuators};
 
 use crate::Admitted;
@@ -11,8 +11,9 @@ use boss_points::Catalogue;
 use boss_shared::Desk;
 use def_history::{Outcome, Outcomes};
 
-/// A desk behind access rules. Its gate is the foremost of its desk's: it judges each submit of a session that a pass holds by the
-/// name of the process that the session holds, and the points' names are those of the catalogue.
+/// A desk behind access rules. Its gate is the foremost of its desk's: it judges each attach by the name that it asks for, and each
+/// submit of a session that a pass holds by the name of the process that the session holds. The points' names are those of the
+/// catalogue.
 ///
 /// It takes no memory.
 pub struct Gatekeeper<'a, G: Desk> {
@@ -79,7 +80,7 @@ impl<'a, G: Desk> Desk for Gatekeeper<'a, G> {
 
     ghost parts = { λ pass. G.parts pass.inner };
 
-    ghost denies = { λ gate. first_denied gate.rules gate.catalogue.now.points ∷ G.denies gate.inner };
+    ghost denies = { λ gate. gate_of gate.rules gate.catalogue.now.points ∷ G.denies gate.inner };
 
     ghost held = { λ pass. pass.held ∷ G.held pass.inner };
 

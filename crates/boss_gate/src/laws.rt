@@ -1,4 +1,4 @@
-ghost use Rattle.std.specs.Prelude.{◌≡◌, ℕ, List, ◌∷◌, ◌++◌, Option, Some, None};
+ghost use Rattle.std.specs.Prelude.{◌≡◌, ℕ, true, List, ◌∷◌, ◌++◌, Option, Some, None};
 ghost use Rattle.boss_gate.specs.Allowed.{held_over, Judged};
 ghost use Rattle.boss_lock.specs.Places.{entries_at};
 ghost use Rattle.boss_model.specs.declared.answer.Answer.{Answer};
@@ -8,7 +8,7 @@ ghost use Rattle.boss_model.specs.declared.command.Policy.{Policy};
 ghost use Rattle.boss_model.specs.declared.command.Setting.{Setting};
 ghost use Rattle.boss_model.specs.declared.state.Actuator.{Actuator};
 ghost use Rattle.boss_model.specs.State.{State};
-ghost use Rattle.boss_shared.specs.Gates.{denial_of, denied_to, held_after, AllowedAll, Gate, Holding};
+ghost use Rattle.boss_shared.specs.Gates.{admits, denial_of, denied_to, denied_writes, held_after, AllowedAll, Gate, Holding};
 ghost use Rattle.boss_shared.specs.Passes.{Batch, TurnsBy};
 ghost use Rattle.def_history.specs.declared.entry.Entry.{Entry};
 ghost use Rattle.def_history.specs.declared.entry.Entry.TheVariants.{Did};
@@ -36,5 +36,13 @@ pub fn a_submit_of_a_holder_was_allowed()
     ensures submit { (gate : Gate) (own own' before behind : List Entry) (held held' : Holding) (session : ℕ) (writes : List Setting) (policy : Policy)
         (seq moment : ℕ) (answer : Answer) (name : List ℕ) → Judged gate own held own' held' →
         deeds own' ≡ deeds own ++ (before ++ Did session (command.Submit writes policy seq) moment answer ∷ behind) →
-        held_over before held ≡ Some (session, name) → gate name writes ≡ None }
+        held_over before held ≡ Some (session, name) → denied_writes gate name writes ≡ None }
+{}
+
+/// The foremost gate of a desk admits each name under which a pass had an attach done since it was admitted, also where the attach was
+/// refused behind the gate. That a pass is judged is what `a_submit_of_a_holder_was_allowed` says of its calls and batches.
+pub fn an_attach_was_admitted()
+    ensures { (gate : Gate) (own own' before behind : List Entry) (held held' : Holding) (session moment : ℕ) (name : List ℕ) (answer : Answer) →
+        Judged gate own held own' held' →
+        deeds own' ≡ deeds own ++ (before ++ Did session (command.Attach name) moment answer ∷ behind) → admits gate name ≡ true }
 {}

@@ -1,7 +1,7 @@
 ghost use Rattle.std.specs.Prelude.{◌≡◌, ◌+◌, ◌≤◌, [], ◌∷◌, take, drop, vec_len, option_copied, IfOk, OnErr};
 ghost use Rattle.boss_model.specs.Limits.{most_workers};
 ghost use Rattle.boss_model.specs.Catalogue.{actuators};
-ghost use Rattle.boss_access.specs.Decisions.{first_denied};
+ghost use Rattle.boss_gate.specs.Gates.{gate_of};
 ghost use Rattle.boss_worker.specs.Desks.{own_of};
 ghost use Rattle.boss_worker.specs.Saying.{terms_of};
 ghost use Rattle.boss_server.specs.Accounts.{Account};
@@ -174,7 +174,7 @@ where
     ensures sound { H.sound outside.new.host.now }
     ensures listens { H.tells → H.listens outside.new.host.now ≡ H.listens outside.old.host.now }
     ensures account { IfOk result.1 (λ told. Account A.calls (λ device. A.tells × A.whole device)
-        (terms_of server.entry.catalogue.now (first_denied rules server.entry.catalogue.now.points ∷ []) (option_copied server.entry.keys) server.entry.workers H.In.tells H.Out.tells H.tells C.tells W.tells) W.tells
+        (terms_of server.entry.catalogue.now (gate_of rules server.entry.catalogue.now.points ∷ []) (option_copied server.entry.keys) server.entry.workers H.In.tells H.Out.tells H.tells C.tells W.tells) W.tells
         (server.entry.workers + 1 + drives) connections (own_of G.Desk result.0) (G.seen result.0)
         (H.served outside.old.host.now) (H.served outside.new.host.now) (C.given outside.old.clock.now) (C.given outside.new.clock.now)
         (hosted_at H.Host outside.old.host.now) (hosted_at H.Host outside.new.host.now) (C.faults outside.old.clock.now) (C.faults outside.new.clock.now)

@@ -7,7 +7,7 @@ use Rattle.boss_model.specs.declared.command.Command.{Command}
 use Rattle.boss_model.specs.declared.command.Command.TheVariants as command
 use Rattle.def_history.specs.declared.outcome.Outcome.{Outcome}
 use Rattle.def_history.specs.declared.outcome.Outcome.TheVariants.{Done, Stopped, DiskFault, NoMemory, Denied}
-use Rattle.boss_shared.specs.Gates.{Holding, all_held_by, denied_at, denied_to, held_after, held_by, or_else, AllowedAll, NextJudged}
+use Rattle.boss_shared.specs.Gates.{Holding, all_held_by, denied_at, denied_to, denied_writes, held_after, held_by, or_else, AllowedAll, NextJudged}
 use Rattle.def_connection.specs.Batches.{AreAsked, batch}
 use Rattle.def_connection.specs.Judging.{denial_in, denied_by, denied_for, name_by, name_after, name_in, AreJudged, or_denied}
 use Rattle.def_connection.specs.Speech.{Gate, Footing, Manner, after, Reply, of_answer, of_memory, of_stop, of_denial}
@@ -23,9 +23,9 @@ or-same : (first second : Option (ℕ × ℕ)) → or_else first second ≡ or_d
 or-same None second = refl
 or-same (Some denial) second = refl
 
-denied-other : (gate : Gate) (session : ℕ) (held : ℕ × List ℕ) (asked : Command) → (held.0 == session) ≡ false → denied_at gate (Some held) session asked ≡ None
+denied-other : (gate : Gate) (session : ℕ) (held : ℕ × List ℕ) (asked : Command) → (held.0 == session) ≡ false → denied_at gate (Some held) session asked ≡ denied_by gate None asked
 denied-other gate session held (command.Attach known) is = refl
-denied-other gate session held (command.Submit writes policy seq) is = ap (λ t. if t then gate held.1 writes else None) is
+denied-other gate session held (command.Submit writes policy seq) is = ap (λ t. if t then denied_writes gate held.1 writes else None) is
 denied-other gate session held (command.Renew txn length points seq) is = refl
 denied-other gate session held (command.Cancel txn seq) is = refl
 denied-other gate session held command.Gone is = refl
@@ -42,7 +42,7 @@ denied-other gate session held command.Version is = refl
 
 denied-own : (gate : Gate) (session : ℕ) (name : List ℕ) (asked : Command) → denied_at gate (Some (session, name)) session asked ≡ denied_by gate (Some name) asked
 denied-own gate session name (command.Attach known) = refl
-denied-own gate session name (command.Submit writes policy seq) = ap (λ t. if t then gate name writes else None) (same-session session)
+denied-own gate session name (command.Submit writes policy seq) = ap (λ t. if t then denied_writes gate name writes else None) (same-session session)
 denied-own gate session name (command.Renew txn length points seq) = refl
 denied-own gate session name (command.Cancel txn seq) = refl
 denied-own gate session name command.Gone = refl
@@ -57,8 +57,26 @@ denied-own gate session name (command.Notices known from most) = refl
 denied-own gate session name (command.Points from most) = refl
 denied-own gate session name command.Version = refl
 
+-- with no name and with nothing of the session held, an attach alone may be denied
+denied-none : (gate : Gate) (session : ℕ) (asked : Command) → denied_at gate None session asked ≡ denied_by gate None asked
+denied-none gate session (command.Attach known) = refl
+denied-none gate session (command.Submit writes policy seq) = refl
+denied-none gate session (command.Renew txn length points seq) = refl
+denied-none gate session (command.Cancel txn seq) = refl
+denied-none gate session command.Gone = refl
+denied-none gate session command.Tick = refl
+denied-none gate session (command.Next driver) = refl
+denied-none gate session (command.Report point version ok) = refl
+denied-none gate session (command.Doubt point differs) = refl
+denied-none gate session (command.Read point) = refl
+denied-none gate session (command.Array point) = refl
+denied-none gate session (command.Status txn) = refl
+denied-none gate session (command.Notices known from most) = refl
+denied-none gate session (command.Points from most) = refl
+denied-none gate session command.Version = refl
+
 denied-one : (gate : Gate) (session : ℕ) (name : Option (List ℕ)) (one : Holding) (asked : Command) → HoldsAt session name one → denied_at gate one session asked ≡ denied_by gate name asked
-denied-one gate session None None asked holds = refl
+denied-one gate session None None asked holds = denied-none gate session asked
 denied-one gate session None (Some held) asked holds = denied-other gate session held asked holds
 denied-one gate session (Some name) one asked holds = ap (λ held. denied_at gate held session asked) holds ∙ denied-own gate session name asked
 

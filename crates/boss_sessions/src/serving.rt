@@ -28,8 +28,9 @@ use std::alloc::Global;
 ///
 /// Each line that is not blank has one reply, in order: a request that of its command, which is done once, at the moment that the
 /// clock gave for it; another line why it is refused; and one for which there was no memory is told so, and changes nothing. Exactly
-/// a submit that a gate of the desk denies to the process that the session then has, by the name of its last accepted attach, is
-/// told so, with its first write that is denied and the rule; it is not done, and the talk goes on.
+/// an attach of a name that a gate of the desk does not admit, and a submit that a gate denies to the process that the session then
+/// has, by the name of its last accepted attach, is told so, a submit with its first write that is denied and the rule; it is not
+/// done, and the talk goes on.
 /// Requests that have come together are done in one call. Nothing is read while a line waits for its reply: at each read every line
 /// that had come whole, but blank ones, had its reply, and the sink had taken these.
 /// With keys, the first line that is a JSON object has to show one, and behind it an attach of another name than the one whose key it

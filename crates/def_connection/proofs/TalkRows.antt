@@ -1,5 +1,6 @@
 -- Talks line by line: how they are read, their entries, texts and moments, and how they end.
 use Rattle.std.proofs.Common.{◌≡◌, ℕ, Bool, false, true, List, [], ◌∷◌, Option, Some, None, refl, lit<}
+use Rattle.std.specs.Str.{bytes_eq}
 use Rattle.boss_model.specs.declared.answer.Answer.{Answer}
 use Rattle.boss_model.specs.declared.answer.Answer.TheVariants as answer
 use Rattle.boss_model.specs.declared.answer.Refusal.TheVariants as refusal
@@ -38,13 +39,13 @@ reply_text of_memory = 2 ∷ []
 reply_text of_stop = 3 ∷ []
 reply_text (of_denial index rule) = 6 ∷ index ∷ rule ∷ []
 
--- every submit is denied at its first write, by rule 2
+-- `name` alone is admitted, and every submit is denied at its first write, by rule 2
 abbrev gate : Gate
-gate known writes = Some (0, 2)
+gate = (bytes_eq name, λ known writes. Some (0, 2))
 
--- no submit is denied
+-- nothing is denied
 abbrev open_gate : Gate
-open_gate known writes = None
+open_gate = (λ known. true, λ known writes. None)
 
 -- no line shows a key
 abbrev manner : Manner
@@ -139,7 +140,18 @@ denied-end-row = ((λ is. cc), ((λ is. cc), ((λ is. refl), tt)))
 foremost-row : denied_for (open_gate ∷ gate ∷ []) (Some name) submit ≡ Some (0, 2)
 foremost-row = refl
 
--- a command that is no submit is denied by none
+-- an attach under another name is denied, and tells no write and no rule, also where the session has a process; it leaves no entry, and
+-- the session the name that it had
+strange-row : (denied_for (open_gate ∷ gate ∷ []) None (command.Attach (98 ∷ [])) ≡ Some (0, 0)) × (denied_for (gate ∷ []) (Some name) (command.Attach (98 ∷ [])) ≡ Some (0, 0))
+strange-row = (refl, refl)
+
+abbrev strange_talk : List Exchange
+strange_talk = called one attach 10 (of_answer held) ∷ called two (command.Attach (98 ∷ [])) 20 (of_denial 0 0) ∷ []
+
+strange-judged-row : AreJudged (gate ∷ []) None strange_talk × (name_in None strange_talk ≡ Some name) × (deeds_in 7 strange_talk ≡ Did 7 attach 10 held ∷ [])
+strange-judged-row = ((refl, (refl, tt)), refl, refl)
+
+-- a command that is neither is denied by none
 other-row : denied_for (gate ∷ []) (Some name) status ≡ None
 other-row = refl
 

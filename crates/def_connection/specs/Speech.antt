@@ -32,21 +32,27 @@ pub record Manner : Type 0 where
   pub reading : Footing → List ℕ → Reading
   pub shows : List ℕ → Option (List ℕ)
 
--- the reply to a command: its answer; that there was no memory for it; that the disk has failed; or which write of it is denied,
--- from 0, and by which rule, from 1, or 0 where no rule is for it
+-- the reply to a command: its answer; that there was no memory for it; that the disk has failed; or that it is denied: which write of
+-- it, from 0, and by which rule, from 1, or 0 where no rule is for it. An attach has no write, and both are 0
 pub data Reply : Type 0 where
   of_answer : Answer → Reply
   of_memory : Reply
   of_stop : Reply
   of_denial : ℕ → ℕ → Reply
 
--- of a process's name and the writes of a submit of it: the first write that is denied and its rule, counted as in a reply; none
--- where all are allowed
+-- Whether a process of this name may attach. And of a process's name and the writes of a submit of it: the first write that is denied
+-- and its rule, counted as in a reply; none where all are allowed
 abbrev pub Gate : Type 0
-Gate = List ℕ → List Setting → Option (ℕ × ℕ)
+Gate = (List ℕ → Bool) × (List ℕ → List Setting → Option (ℕ × ℕ))
+
+abbrev pub admits : Gate → List ℕ → Bool
+admits gate = gate.0
+
+abbrev pub denied_writes : Gate → List ℕ → List Setting → Option (ℕ × ℕ)
+denied_writes gate = gate.1
 
 -- how lines are read; the texts of replies, each with its line end, also to a line that is too long, and to one that is forbidden; and
--- the gates that a submit has to pass, the foremost first
+-- the gates that an attach and a submit have to pass, the foremost first
 pub record Speech : Type 0 where
   pub manner : Manner
   pub reply_text : Reply → List ℕ

@@ -9,8 +9,9 @@ ghost use Rattle.def_connection.specs.Talks.{Exchanged, IsTalkOf};
 
 use boss_outside::Sink;
 
-/// Where a connection's submits are denied exactly as the gates say, each submit that was done is allowed: each gate allows all its
-/// writes to the process that the session had then, by the name of the last attach that was accepted.
+/// Where a connection's attaches and submits are denied exactly as the gates say, each that was done is allowed: each gate admits the
+/// name that an attach asked for, and allows all writes of a submit to the process that the session had then, by the name of the last
+/// attach that was accepted.
 pub fn what_is_done_is_allowed<K: Sink>()
     ensures talk { (speech : Speech) (session : ℕ) (heard : List (List ℕ)) (stop : Stop) (broken : Bool) (old new : List ℕ) (before now : ℕ)
         (entries : List Entry) (moments : List ℕ) → Exchanged speech session K.tells heard stop broken old new before now entries moments →

@@ -1,6 +1,6 @@
 use Rattle.std.proofs.Common.{◌≡◌, ℕ, List, [], ◌∷◌, length, None, Some, refl, sym, ap, ◌∙◌, subst, arith, length-append}
 use Rattle.std.specs.List.{AllByRecursion}
-use Rattle.boss_access.specs.Decisions.{first_denied}
+use Rattle.boss_gate.specs.Gates.{gate_of}
 use Rattle.boss_model.specs.declared.answer.Answer.{Answer}
 use Rattle.boss_model.specs.declared.command.Command.{Command}
 use Rattle.boss_model.specs.Tellable.{IsTellable}
@@ -17,7 +17,7 @@ loop-asked-init g c =
       parts = refl;
       so_far = so_far_none _ _ _ _ _ _ _ nil (g.met.G.Desk.owned c.args.self.now.inner c.args.pass.now.inner c.requires.own.0).legal;
       whole = λ less. absurd (omega arith);
-      allowed = allowed_none (first_denied c.args.self.now.rules c.args.self.now.catalogue.now.points ∷ g.G.Desk.denies c.args.self.now.inner) c.args.session c.args.commands.now _
+      allowed = allowed_none (gate_of c.args.self.now.rules c.args.self.now.catalogue.now.points ∷ g.G.Desk.denies c.args.self.now.inner) c.args.session c.args.commands.now _
           (c.args.pass.now.held ∷ g.G.Desk.held c.args.pass.now.inner) (c.args.pass.now.held ∷ g.G.Desk.held c.args.pass.now.inner) nil refl;
       told = λ catalogue is. subst (AllByRecursion (IsTellable catalogue)) (sym nil) tt;
       many = ap length nil;
@@ -27,13 +27,13 @@ loop-asked-init g c =
 
 pub returns-then-goes_whole-clause-allowed : goal.returns-then-goes_whole-clause-allowed
 returns-then-goes_whole-clause-allowed g c =
-    let gate = first_denied c.args.self.now.rules c.args.self.now.catalogue.now.points in
+    let gate = gate_of c.args.self.now.rules c.args.self.now.catalogue.now.points in
     let whole = ap (goes_whole gate c.args.pass.now.held c.args.session) (sym c.slice-calls.ensures) ∙ sym c.goes_whole.ensures ∙ c.if-goes_whole.true in
     whole_allowed gate c.args.pass.now.held (g.G.Desk.denies c.args.self.now.inner) c.args.session c.args.commands.now _ _ _ whole c.call_all.ensures.allowed
 
 pub returns-then-goes_whole-clause-gate : goal.returns-then-goes_whole-clause-gate
 returns-then-goes_whole-clause-gate g c =
-    let gate = first_denied c.args.self.now.rules c.args.self.now.catalogue.now.points in
+    let gate = gate_of c.args.self.now.rules c.args.self.now.catalogue.now.points in
     let whole = ap (goes_whole gate c.args.pass.now.held c.args.session) (sym c.slice-calls.ensures) ∙ sym c.goes_whole.ensures ∙ c.if-goes_whole.true in
     whole_judged gate c.args.pass.now.held (g.G.Desk.denies c.args.self.now.inner) c.args.session c.args.commands.now c.call_all.result.done c.call_all.result.rest _ whole c.call_all.ensures.gate
 
@@ -41,7 +41,7 @@ pub returns-clause-gate : goal.returns-clause-gate
 returns-clause-gate g c =
     let many = ap length c.slice-calls.ensures in
     let number : c.loop-asked.done ≡ c.loop-asked.asked-index = c.loop-asked.invariant.number in
-    judged_all (first_denied c.args.self.now.rules c.args.self.now.catalogue.now.points ∷ g.G.Desk.denies c.args.self.now.inner) c.args.session
+    judged_all (gate_of c.args.self.now.rules c.args.self.now.catalogue.now.points ∷ g.G.Desk.denies c.args.self.now.inner) c.args.session
     (c.loop-asked.pass.held ∷ g.G.Desk.held c.loop-asked.pass.inner) c.args.commands.now c.loop-asked.done None (omega arith)
 
 pub returns-in_default-clause-batch : goal.returns-in_default-clause-batch
@@ -51,14 +51,14 @@ returns-in_default-clause-batch g c =
 
 pub returns-in_default-clause-allowed : goal.returns-in_default-clause-allowed
 returns-in_default-clause-allowed g c =
-    let gates = first_denied c.args.self.now.rules c.args.self.now.catalogue.now.points ∷ g.G.Desk.denies c.args.self.now.inner in
+    let gates = gate_of c.args.self.now.rules c.args.self.now.catalogue.now.points ∷ g.G.Desk.denies c.args.self.now.inner in
     let first : List Holding = c.args.pass.now.held ∷ g.G.Desk.held c.args.pass.now.inner in
     let same = c.call.ensures.held ∙ undone_holds c.args.session c.asked-item.result.0 c.call.result _ (λ given is. c.in_default.not-Done given is) in
     subst (λ (held : List Holding). AllowedAll gates c.args.session c.args.commands.now c.loop-asked.answers.items first held) (sym same) c.loop-asked.invariant.allowed
 
 pub returns-in_default-clause-gate : goal.returns-in_default-clause-gate
 returns-in_default-clause-gate g c =
-    let gates = first_denied c.args.self.now.rules c.args.self.now.catalogue.now.points ∷ g.G.Desk.denies c.args.self.now.inner in
+    let gates = gate_of c.args.self.now.rules c.args.self.now.catalogue.now.points ∷ g.G.Desk.denies c.args.self.now.inner in
     let held : List Holding = c.call.new.pass.held ∷ g.G.Desk.held c.call.new.pass.inner in
     let same = c.call.ensures.held ∙ undone_holds c.args.session c.asked-item.result.0 c.call.result _ (λ given is. c.in_default.not-Done given is) in
     let here = subst (λ (calls : List (Command × ℕ)). IsNext calls c.loop-asked.asked-index c.asked-item.result) c.slice-calls.ensures
@@ -81,7 +81,7 @@ loop-asked-preserved g c =
     let given = c.in-Done.answer in
     let asked = c.asked-item.result in
     let answers = c.loop-asked.answers.items in
-    let gates = first_denied c.args.self.now.rules c.args.self.now.catalogue.now.points ∷ g.G.Desk.denies c.args.self.now.inner in
+    let gates = gate_of c.args.self.now.rules c.args.self.now.catalogue.now.points ∷ g.G.Desk.denies c.args.self.now.inner in
     let first : List Holding = c.args.pass.now.held ∷ g.G.Desk.held c.args.pass.now.inner in
     let before : List Holding = c.loop-asked.pass.held ∷ g.G.Desk.held c.loop-asked.pass.inner in
     let put = c.push_reserved.ensures.items in

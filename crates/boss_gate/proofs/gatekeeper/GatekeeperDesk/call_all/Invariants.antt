@@ -1,6 +1,6 @@
 use Rattle.std.proofs.Common.{◌≡◌, ◌<◌, false, ◌∷◌, length, vec_capacity}
 use Rattle.std.specs.List.{AllByRecursion}
-use Rattle.boss_access.specs.Decisions.{first_denied}
+use Rattle.boss_gate.specs.Gates.{gate_of}
 use Rattle.boss_model.specs.Catalogue.{actuators, Catalogue}
 use Rattle.boss_model.specs.Tellable.{IsTellable}
 use Rattle.boss_shared.specs.Gates.{AllowedAll}
@@ -17,7 +17,7 @@ invariant-loop-asked g l = record {
       l.session l.commands (g.G.Desk.seen l.pass.inner) (g.G.Desk.mine l.pass.inner) l.answers.items;
   -- at the first command the pass may have seen the mark
   whole : 0 < l.asked-index → is_broken (g.G.Desk.seen l.pass.inner) ≡ false;
-  allowed : AllowedAll (first_denied l.self.rules l.self.catalogue.now.points ∷ g.G.Desk.denies l.self.inner) l.session l.commands l.answers.items
+  allowed : AllowedAll (gate_of l.self.rules l.self.catalogue.now.points ∷ g.G.Desk.denies l.self.inner) l.session l.commands l.answers.items
       (l.fn.pass.held ∷ g.G.Desk.held l.fn.pass.inner) (l.pass.held ∷ g.G.Desk.held l.pass.inner);
   told : (catalogue : Catalogue) → actuators catalogue ≡ g.G.Desk.plant l.self.inner → AllByRecursion (IsTellable catalogue) l.answers.items;
   many : length l.answers.items ≡ l.asked-index;
