@@ -275,6 +275,24 @@ impl<L: Link> Cluster for EtcdCluster<L> {
         outcome
     }
 
+    fn commit_whole(
+        &mut self,
+        at: u64,
+        bytes: &[u8],
+        last: bool,
+        _place: u64,
+        _added: &[u8],
+    ) -> Result<(), Lost>
+        requires within { length bytes.now ≤ 65536 }
+        ensures committed { L.tells → Committed L.Link at bytes.now last self.old self.new result }
+        ensures on { OnOk result (self.new.is_over ≡ false) }
+        ensures over { OnErr result (self.new.is_over ≡ true) }
+        ensures name { self.new.name ≡ self.old.name }
+        ensures hosts { self.new.members.hosts ≡ self.old.members.hosts }
+    {
+        self.commit(at, bytes, last)
+    }
+
     fn note_write(&mut self, _at: u64, _bytes: &[u8]) -> Result<(), Failed> {
         Ok(())
     }

@@ -127,4 +127,15 @@ impl Disk for PlacedDisk {
             Err(Failed) => Err(self.fault()),
         }
     }
+
+    fn write_whole(&mut self, at: u64, bytes: &[u8]) -> Result<bool, Failed> {
+        let written = match &mut self.kept {
+            Kept::File(disk) => disk.write_whole(at, bytes),
+            Kept::Etcd(disk) => disk.write_whole(at, bytes),
+        };
+        match written {
+            Ok(done) => Ok(done),
+            Err(Failed) => Err(self.fault()),
+        }
+    }
 }

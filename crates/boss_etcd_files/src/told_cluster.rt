@@ -102,6 +102,21 @@ impl Cluster for ToldCluster {
         outcome
     }
 
+    fn commit_whole(
+        &mut self,
+        at: u64,
+        bytes: &[u8],
+        last: bool,
+        place: u64,
+        added: &[u8],
+    ) -> Result<(), Lost> {
+        let outcome = self.cluster.commit_whole(at, bytes, last, place, added);
+        if let Err(lost) = outcome {
+            self.say(lost);
+        }
+        outcome
+    }
+
     fn note_write(&mut self, _at: u64, _bytes: &[u8]) -> Result<(), Failed> {
         Ok(())
     }

@@ -84,7 +84,7 @@ in_memory first second faults = record {
 
 -- a disk in memory that holds nothing
 abbrev pub empty_disk : DiskRecord
-empty_disk = record { start = []; calls = []; failures = record { plan = new_plan []; left = None } }
+empty_disk = record { start = []; calls = []; failures = record { plan = new_plan []; left = None }; is_whole = false }
 
 module _ {S K : Type 0} (s : source.Ghosts S) (k : sink.Ghosts K) (catalogue : Catalogue) where
   -- A feed was followed from this state on, after so many events, until this end, and what it came to was told. A disk failed exactly where
