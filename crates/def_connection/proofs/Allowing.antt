@@ -70,14 +70,14 @@ parting-allowed gates name session moment (Some given) = (gone-allowed gates nam
 
 talk-allowed : (gates : List Gate) (name : Option (List ℕ)) (session : ℕ) (talk : List Exchange) (behind : List Entry) → AreJudged gates name talk →
     ((later : Option (List ℕ)) → AreAllowed gates later behind) → AreAllowed gates name (deeds_in session talk ++ behind)
-talk-allowed gates name session [] behind judged then = then name
-talk-allowed gates name session (unread line ∷ talk) behind judged then = talk-allowed gates name session talk behind judged.1 then
-talk-allowed gates name session (refused line why ∷ talk) behind judged then = talk-allowed gates name session talk behind judged.1 then
-talk-allowed gates name session (called line asked moment (of_answer given) ∷ talk) behind judged then =
-    (undenied-allowed gates name asked (sym judged.0), talk-allowed gates (name_by name asked given) session talk behind judged.1 then)
-talk-allowed gates name session (called line asked moment of_memory ∷ talk) behind judged then = talk-allowed gates name session talk behind judged.1 then
-talk-allowed gates name session (called line asked moment of_stop ∷ talk) behind judged then = talk-allowed gates name session talk behind judged.1 then
-talk-allowed gates name session (called line asked moment (of_denial index rule) ∷ talk) behind judged then = talk-allowed gates name session talk behind judged.1 then
+talk-allowed gates name session [] behind judged more = more name
+talk-allowed gates name session (unread line ∷ talk) behind judged more = talk-allowed gates name session talk behind judged.1 more
+talk-allowed gates name session (refused line why ∷ talk) behind judged more = talk-allowed gates name session talk behind judged.1 more
+talk-allowed gates name session (called line asked moment (of_answer given) ∷ talk) behind judged more =
+    (undenied-allowed gates name asked (sym judged.0), talk-allowed gates (name_by name asked given) session talk behind judged.1 more)
+talk-allowed gates name session (called line asked moment of_memory ∷ talk) behind judged more = talk-allowed gates name session talk behind judged.1 more
+talk-allowed gates name session (called line asked moment of_stop ∷ talk) behind judged more = talk-allowed gates name session talk behind judged.1 more
+talk-allowed gates name session (called line asked moment (of_denial index rule) ∷ talk) behind judged more = talk-allowed gates name session talk behind judged.1 more
 
 pub exchanged-allowed : (speech : Speech) (session : ℕ) (tells : Type 0) (heard : List (List ℕ)) (stop : Stop) (broken : Bool) (old new : List ℕ) (before now : ℕ) (entries : List Entry) (moments : List ℕ) →
     Exchanged speech session tells heard stop broken old new before now entries moments → AreAllowed speech.denies None entries
