@@ -7,3 +7,4 @@ pub mod Redoing
 pub mod Followings
 pub mod Alone
 pub mod Stories
+pub mod Askings

@@ -1,4 +1,5 @@
 pub mod Begun
+pub mod Confirmed
 pub mod Reached
 pub mod Taken
 pub mod Words

@@ -36,6 +36,7 @@ impl<D: Disk> Durable<D> {
         ensures events { self.new.disks.events ≡ self.old.disks.events }
         ensures limit { self.new.log_limit ≡ self.old.log_limit }
         ensures digest { self.new.disks.digest ≡ self.old.disks.digest }
+        ensures confirmed { self.new.confirmed ≡ self.old.confirmed }
         ensures cause { BegunCause (counts_of self.old.disks) (counts_of self.new.disks) result }
         ensures stops { self.new.disks.stopped ≡ is_fault result }
         ensures memory { result ≡ Begun.NoMemory → self.new ≡ self.old }
@@ -73,6 +74,7 @@ impl<D: Disk> Durable<D> {
         ensures events { self.new.disks.events ≡ self.old.disks.events }
         ensures limit { self.new.log_limit ≡ self.old.log_limit }
         ensures digest { self.new.disks.digest ≡ self.old.disks.digest }
+        ensures confirmed { self.new.confirmed ≡ self.old.confirmed }
         ensures cause { BegunCause (counts_of self.old.disks) (counts_of self.new.disks) result }
         ensures stops { self.new.disks.stopped ≡ is_fault result }
         ensures tried { result ≢ Begun.NoMemory }

@@ -1,4 +1,4 @@
-ghost use Rattle.std.specs.Prelude.{◌≡◌, ◌≤◌, ◌<◌, ℕ, false, List, length};
+ghost use Rattle.std.specs.Prelude.{◌≡◌, ◌≤◌, ◌<◌, ℕ, false, List, length, None};
 ghost use Rattle.boss_durable.specs.Words.{keeps, lasting, leaves};
 ghost use Rattle.boss_model.specs.declared.event.Event.{Event};
 ghost use Rattle.boss_model.specs.Limits.{last_number, record_room};
@@ -41,6 +41,7 @@ impl<D: Disk> Durable<D> {
         ensures engine { result.engine ≡ engine }
         ensures disks { result.disks ≡ disks }
         ensures limit { result.log_limit ≡ log_limit }
+        ensures confirmed { result.confirmed ≡ None }
     {
         Durable {
             alloc,
@@ -51,6 +52,7 @@ impl<D: Disk> Durable<D> {
                 events: 0,
             },
             log_limit,
+            confirmed: None,
         }
     }
 

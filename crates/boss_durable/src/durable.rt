@@ -20,6 +20,8 @@ pub struct Durable<D: Disk> {
     pub(crate) batch: Batch,
     /// How many bytes a log may have.
     pub(crate) log_limit: u64,
+    /// The moment of the call before which the disk in force was asked last, in milliseconds. None before the first.
+    pub(crate) confirmed: Option<u64>,
     ghost version: { disks.stopped ≡ false → disks.journal.version ≡ newest_version },
     ghost room: { batch.bytes.capacity ≡ 65536 },
     ghost limit: { 131072 ≤ log_limit },

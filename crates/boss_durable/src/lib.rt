@@ -6,6 +6,9 @@
 //! behind a kept state of what lasts. Without memory for that, commands that may want memory are answered that there is none, and
 //! the others go on in the old log.
 //!
+//! A call of it, also one that only asks, begins only where the disk in force was asked within the last second before its moment:
+//! where not it is synced first. So a server whose disk is lost, or was taken over by another one, finds out while nothing changes.
+//!
 //! It can also follow another history: an event of that, or a state, in place of a command.
 #![tactic(auto)]
 
@@ -14,6 +17,7 @@ mod batch;
 mod beginning;
 mod changing;
 mod closing;
+mod confirming;
 mod counting;
 mod durable;
 mod followed;

@@ -2,6 +2,7 @@ ghost use Rattle.std.specs.Prelude.{◌≡◌, ◌⊎◌, ◌+◌, ◌≤◌, �
 ghost use Rattle.boss_model.specs.Limits.{most_held, record_room};
 ghost use Rattle.std.specs.List.{AllByRecursion};
 ghost use Rattle.boss_durable.specs.Begun.{WantNone};
+ghost use Rattle.boss_durable.specs.Confirmed.{IsConfirmed, latest};
 ghost use Rattle.boss_durable.specs.Words.{Does, RunsThrough, keeps, lasting, leaves, log, passes};
 ghost use Rattle.def_history.specs.declared.outcome.Outcome.TheVariants.{NoMemory};
 ghost use Rattle.def_history.specs.History.{MayCall};
@@ -13,6 +14,7 @@ ghost use Rattle.boss_disk_pair.specs.Causes.{CallCause, counts_of};
 
 use crate::Durable;
 use crate::beginning::Begun;
+use crate::confirming::latest;
 use crate::stepping::take_steps;
 use crate::wanting::before_want;
 use boss_disk::Disk;
@@ -51,6 +53,7 @@ impl<D: Disk> Durable<D> {
         ensures room { vec_capacity answers.new ≡ vec_capacity answers.old }
         ensures limit { self.new.log_limit ≡ self.old.log_limit }
         ensures digest { self.new.disks.digest ≡ self.old.disks.digest }
+        ensures confirmed { self.new.disks.stopped ≡ false → IsConfirmed self.new.confirmed (latest commands.now) }
     {
         answers.clear();
         if self.disks.stopped() {
@@ -82,11 +85,12 @@ impl<D: Disk> Durable<D> {
         ensures engine { self.new.engine ≡ self.old.engine }
         ensures limit { self.new.log_limit ≡ self.old.log_limit }
         ensures digest { self.new.disks.digest ≡ self.old.disks.digest }
+        ensures confirmed { OnOk result (IsConfirmed self.new.confirmed (latest commands.now)) }
         ensures cause { CallCause false (counts_of self.old.disks) (counts_of self.new.disks) result }
         ensures fine { OnOk result (self.new.disks.stopped ≡ false) }
         ensures stops { OnErr result (self.new.disks.stopped ≡ true) }
     {
-        match self.begin() {
+        match self.begin_at(latest(commands)) {
             Begun::Ready => Ok(commands.len()),
             Begun::NoMemory => Ok(before_want(self.engine.engine(), commands)),
             Begun::DiskFault => Err(Failed),
@@ -121,6 +125,7 @@ impl<D: Disk> Durable<D> {
         ensures room { vec_capacity answers.new ≡ vec_capacity answers.old }
         ensures limit { self.new.log_limit ≡ self.old.log_limit }
         ensures digest { self.new.disks.digest ≡ self.old.disks.digest }
+        ensures confirmed { self.new.confirmed ≡ self.old.confirmed }
     {
         self.batch.clear();
         take_steps(

@@ -1,6 +1,7 @@
 ghost use Rattle.std.specs.Prelude.{◌≡◌, ◌+◌, ◌≤◌, ◌<◌, true, false, List, ◌++◌, length};
 ghost use Rattle.std.specs.List.{AllByRecursion};
 ghost use Rattle.boss_durable.specs.Taken.{Taken};
+ghost use Rattle.boss_durable.specs.Confirmed.{IsConfirmed, latest_of};
 ghost use Rattle.boss_durable.specs.Words.{Does, RunsThrough};
 ghost use Rattle.boss_model.specs.Limits.{most_held};
 ghost use Rattle.boss_model.specs.State.{State};
@@ -11,6 +12,7 @@ ghost use Rattle.def_history.specs.Made.{done_by};
 
 use crate::Durable;
 use crate::beginning::Begun;
+use crate::confirming::latest_of;
 use crate::several::outcomes;
 use crate::stepping::take_more;
 use crate::wanting::before_want;
@@ -38,12 +40,13 @@ impl<D: Disk> Durable<D> {
         ensures still { self.old.disks.stopped ≡ true → self.new ≡ self.old }
         ensures limit { self.new.log_limit ≡ self.old.log_limit }
         ensures digest { self.new.disks.digest ≡ self.old.disks.digest }
+        ensures confirmed { self.new.disks.stopped ≡ false → IsConfirmed self.new.confirmed (latest_of group.old) }
     {
         if self.disks.stopped() {
             stop_all(group);
             return;
         }
-        match self.begin() {
+        match self.begin_at(latest_of(group)) {
             Begun::Ready => self.take_together(group, true),
             Begun::NoMemory => self.take_together(group, false),
             Begun::DiskFault => fail_all(group),
@@ -62,6 +65,7 @@ impl<D: Disk> Durable<D> {
         ensures told { AreReplied false group.new }
         ensures limit { self.new.log_limit ≡ self.old.log_limit }
         ensures digest { self.new.disks.digest ≡ self.old.disks.digest }
+        ensures confirmed { self.new.confirmed ≡ self.old.confirmed }
     {
         self.batch.clear();
         for asked in group.iter_mut() {
@@ -87,6 +91,7 @@ impl<D: Disk> Durable<D> {
         ensures plant { self.new.engine.plant ≡ self.old.engine.plant }
         ensures disks { self.new.disks ≡ self.old.disks }
         ensures limit { self.new.log_limit ≡ self.old.log_limit }
+        ensures confirmed { self.new.confirmed ≡ self.old.confirmed }
     {
         let calls = asked.commands.slice();
         let many = self.going_on(calls, ready);

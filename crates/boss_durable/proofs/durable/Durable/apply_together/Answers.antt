@@ -38,12 +38,12 @@ take_together-requires-clause-may g c =
 
 pub returns-in-Ready-clause-images : goal.returns-in-Ready-clause-images
 returns-in-Ready-clause-images g c =
-    begun_runs c.args.self.now c.begin.new.self c.take_together.new.self (made_together c.take_together.new.group) c.in-Ready.ensures.engine (λ before held. c.in-Ready.ensures.keeps before held ready)
+    begun_runs c.args.self.now c.begin_at.new.self c.take_together.new.self (made_together c.take_together.new.group) c.in-Ready.ensures.engine (λ before held. c.in-Ready.ensures.keeps before held ready)
     c.in-Ready.ensures.passes c.take_together.ensures.images
 
 pub returns-in-Ready-clause-kept : goal.returns-in-Ready-clause-kept
 returns-in-Ready-clause-kept g c =
-    begun_does c.args.self.now c.begin.new.self c.take_together.new.self _ (sym c.stopped.ensures ∙ c.if-stopped.false) c.in-Ready.ensures.stops
+    begun_does c.args.self.now c.begin_at.new.self c.take_together.new.self _ (sym c.stopped.ensures ∙ c.if-stopped.false) c.in-Ready.ensures.stops
     c.in-Ready.ensures.engine c.in-Ready.ensures.cause (λ before held. c.in-Ready.ensures.keeps before held ready) c.take_together.ensures.kept (returns-in-Ready-clause-images g c)
 
 pub returns-in-Ready-clause-told : goal.returns-in-Ready-clause-told
@@ -55,12 +55,12 @@ take_together-requires-in-NoMemory-clause-may g c =
 
 pub returns-in-NoMemory-clause-images : goal.returns-in-NoMemory-clause-images
 returns-in-NoMemory-clause-images g c =
-    begun_runs c.args.self.now c.begin.new.self c.take_together-in-NoMemory.new.self (made_together c.take_together-in-NoMemory.new.group) c.in-NoMemory.ensures.engine (λ before held. c.in-NoMemory.ensures.keeps before held wanting)
+    begun_runs c.args.self.now c.begin_at.new.self c.take_together-in-NoMemory.new.self (made_together c.take_together-in-NoMemory.new.group) c.in-NoMemory.ensures.engine (λ before held. c.in-NoMemory.ensures.keeps before held wanting)
     c.in-NoMemory.ensures.passes c.take_together-in-NoMemory.ensures.images
 
 pub returns-in-NoMemory-clause-kept : goal.returns-in-NoMemory-clause-kept
 returns-in-NoMemory-clause-kept g c =
-    begun_does c.args.self.now c.begin.new.self c.take_together-in-NoMemory.new.self _ (sym c.stopped.ensures ∙ c.if-stopped.false) c.in-NoMemory.ensures.stops
+    begun_does c.args.self.now c.begin_at.new.self c.take_together-in-NoMemory.new.self _ (sym c.stopped.ensures ∙ c.if-stopped.false) c.in-NoMemory.ensures.stops
     c.in-NoMemory.ensures.engine c.in-NoMemory.ensures.cause (λ before held. c.in-NoMemory.ensures.keeps before held wanting) c.take_together-in-NoMemory.ensures.kept (returns-in-NoMemory-clause-images g c)
 
 pub returns-in-NoMemory-clause-told : goal.returns-in-NoMemory-clause-told
@@ -74,15 +74,15 @@ fail_all-requires-clause-some g c = asks_some c.args.self.now.engine.plant c.arg
 pub returns-in-DiskFault-clause-kept : goal.returns-in-DiskFault-clause-kept
 returns-in-DiskFault-clause-kept g c =
     let mark = c.fail_all.ensures.mark in
-    subst (Does c.args.self.now c.begin.new.self) (sym mark.3)
-    (unbegun_together c.args.self.now c.begin.new.self mark.0 mark.1 (sym c.stopped.ensures ∙ c.if-stopped.false) c.in-DiskFault.ensures.stops c.in-DiskFault.ensures.cause
+    subst (Does c.args.self.now c.begin_at.new.self) (sym mark.3)
+    (unbegun_together c.args.self.now c.begin_at.new.self mark.0 mark.1 (sym c.stopped.ensures ∙ c.if-stopped.false) c.in-DiskFault.ensures.stops c.in-DiskFault.ensures.cause
     (subst (AllByRecursion (MayAsk c.args.self.now.engine.plant)) mark.2 c.requires.may) c.in-DiskFault.ensures.engine c.in-DiskFault.ensures.passes)
 
 pub returns-in-DiskFault-clause-images : goal.returns-in-DiskFault-clause-images
 returns-in-DiskFault-clause-images g c =
     let mark = c.fail_all.ensures.mark in
-    subst (RunsThrough c.args.self.now c.begin.new.self) (sym mark.3)
-    (unbegun_runs c.args.self.now c.begin.new.self mark.0.session mark.0.commands (map tried_of mark.1) c.in-DiskFault.ensures.passes)
+    subst (RunsThrough c.args.self.now c.begin_at.new.self) (sym mark.3)
+    (unbegun_runs c.args.self.now c.begin_at.new.self mark.0.session mark.0.commands (map tried_of mark.1) c.in-DiskFault.ensures.passes)
 
 pub returns-in-DiskFault-clause-told : goal.returns-in-DiskFault-clause-told
 returns-in-DiskFault-clause-told g c = subst (λ (b : Bool). AreReplied b c.fail_all.new.group) (sym (sym c.stopped.ensures ∙ c.if-stopped.false)) c.fail_all.ensures.told

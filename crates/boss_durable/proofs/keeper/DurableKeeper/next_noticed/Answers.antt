@@ -9,6 +9,7 @@ returns g c = λ i. record {
   disks = c.args.self.now.disks;
   batch = c.args.self.now.batch;
   log_limit = c.args.self.now.log_limit;
+  confirmed = c.args.self.now.confirmed;
   version = →_prop (Coded-set coded_ℕ _ _) c.self-1.given.0 c.args.self.now.version i;
   room = Coded-set coded_ℕ _ _ c.self-1.given.1.0 c.args.self.now.room i;
   limit = le_prop c.self-1.given.1.1.0 c.args.self.now.limit i;
