@@ -162,26 +162,29 @@ fn try_calls(rt: &impl Abort, alloc: Global, catalogue: &Catalogue, calls: u64) 
     stopped && failed && other_stopped && other_failed
 }
 
-/// The last four calls of the first disk are those of the submit: its record, a sync, its gate, a sync. How many events are held where so
-/// many of them were left out, by the pick of what a crash leaves. The gate is byte 65, bit 1 of the pick, and 255 less an open gate is a shut one.
-const APPENDED: [(u64, u64, usize); 14] = [
+/// The last five calls of the first disk are those of the submit: its record, a sync, its gate, a sync; and a sync before the read, which
+/// comes a second later. How many events are held where so many of them were left out, by the pick of what a crash leaves. The gate is byte
+/// 65, bit 1 of the pick, and 255 less an open gate is a shut one.
+const APPENDED: [(u64, u64, usize); 16] = [
+    (5, 0, 1),
+    (5, 1, 1),
     (4, 0, 1),
     (4, 1, 1),
+    (4, 2, 1),
     (3, 0, 1),
     (3, 1, 1),
-    (3, 2, 1),
     (2, 0, 1),
-    (2, 1, 1),
-    (1, 0, 1),
-    (1, 1, 2),
-    (1, 2, 1),
-    (1, 5, 1),
-    (1, 6, 2),
+    (2, 1, 2),
+    (2, 2, 1),
+    (2, 5, 1),
+    (2, 6, 2),
+    (1, 0, 2),
+    (1, 2, 2),
     (0, 0, 2),
     (0, 2, 2),
 ];
 
-/// Looks at what a crash leaves of the first disk at each of the last four calls of so many.
+/// Looks at what a crash leaves of the first disk at each of the last five calls of so many.
 fn expect_append(rt: &impl Abort, alloc: Global, catalogue: &Catalogue, calls: u64)
     requires { HasDevices 1 (actuators catalogue.now) }
 {
