@@ -14,8 +14,11 @@ const MAKING: u64 = 8;
 /// The calls of a look at the last gate before the first append.
 const READY: u64 = 1;
 
-/// The calls of an append.
+/// The calls of an append to a disk that a crash may tear.
 const APPEND: u64 = 4;
+
+/// The calls of an append to a disk that writes a record whole.
+const WHOLE_APPEND: u64 = 1;
 
 /// How far a run came.
 #[derive(Clone, Copy)]
@@ -138,10 +141,14 @@ fn records_to_fault<R: Abort>(rt: &R, alloc: Global, bytes: &[u8], call: u64) ->
     }
 }
 
-/// Whether a run over a disk whose call of this number fails has the fault of the disk, and came as far as that lets it.
-fn fails_at(call: u64, came: Came, faults: u64) -> bool {
-    let calls = MAKING + READY + 2 * APPEND;
-    let whole = call.saturating_sub(MAKING + READY + 1) / APPEND;
+/// Whether a run over a disk whose call of this number fails has the fault of the disk, and came as far as that lets it, where an append
+/// takes so many calls, 1 to 4.
+fn fails_at(call: u64, append: u64, came: Came, faults: u64) -> bool
+    requires some { 1 ≤ append }
+    requires few { append ≤ 4 }
+{
+    let calls = MAKING + READY + 2 * append;
+    let whole = call.saturating_sub(MAKING + READY + 1) / append;
     faults == (call <= calls) as u64
         && came.opened == (call > MAKING)
         && came.ready == (call > MAKING + READY)
@@ -153,7 +160,7 @@ fn fail_each_write<R: Abort>(rt: &R, alloc: Global) -> Result<(), NoMemory> {
     for call in 1..=MAKING + READY + 2 * APPEND + 1 {
         let mut came = NOWHERE;
         let faults = run(rt, failing_disk(alloc, &[], call)?, &mut came).faults();
-        assert!(rt; fails_at(call, came, faults), "call {call}");
+        assert!(rt; fails_at(call, APPEND, came, faults), "call {call}");
     }
     Ok(())
 }
@@ -201,6 +208,61 @@ fn each_call_of_the_disk_may_be_the_last(rt: HostRuntime) -> Result<(), Fail> {
         for pick in [0, 1, 2, 5] {
             let kept = keeps_what_was_appended(&rt, rt.alloc(), stop, pick)?;
             assert!(rt; kept, "stop {stop} pick {pick}");
+        }
+    }
+    Ok(())
+}
+
+/// A disk without bytes that writes bytes whole, of which the call of this number fails.
+fn whole_disk(alloc: Global, call: u64) -> Result<MemoryDisk, NoMemory> {
+    let mut disk = failing_disk(alloc, &[], call)?;
+    disk.make_whole();
+    Ok(disk)
+}
+
+/// Makes and fills journals over disks that write bytes whole, of which each call fails in turn, and none.
+fn fail_each_whole_write<R: Abort>(rt: &R, alloc: Global) -> Result<(), NoMemory> {
+    for call in 1..=MAKING + READY + 2 * WHOLE_APPEND + 1 {
+        let mut came = NOWHERE;
+        let faults = run(rt, whole_disk(alloc, call)?, &mut came).faults();
+        assert!(rt; fails_at(call, WHOLE_APPEND, came, faults), "call {call}");
+    }
+    Ok(())
+}
+
+#[test]
+fn a_record_is_one_call_of_a_disk_that_writes_it_whole(rt: HostRuntime) -> Result<(), Fail> {
+    let alloc = rt.alloc();
+    fail_each_whole_write(&rt, alloc)?;
+    let mut came = NOWHERE;
+    let whole = run(&rt, whole_disk(alloc, 0)?, &mut came).into_bytes();
+    assert_eq!(rt; came.appended, 2);
+    let torn = run(&rt, disk_of(alloc, &[])?, &mut came).into_bytes();
+    assert!(rt; whole.slice() == torn.slice());
+    assert!(rt; whole.slice() == journal(alloc, 3, &DIGEST, &LOG)?.as_slice());
+    Ok(())
+}
+
+/// Whether an image of such a disk that stopped after so many calls has the records that were appended before, and no other.
+fn has_what_was_appended<R: Abort>(
+    rt: &R,
+    alloc: Global,
+    stop: u64,
+    pick: u64,
+) -> Result<bool, Fail> {
+    let mut disk = whole_disk(alloc, 0)?;
+    disk.stop_after(stop);
+    let mut came = NOWHERE;
+    let image = run(rt, disk, &mut came).image(alloc, pick)?;
+    Ok(came.appended == records(rt, alloc, image)?)
+}
+
+#[test]
+fn a_record_that_is_written_whole_is_there_or_not(rt: HostRuntime) -> Result<(), Fail> {
+    for stop in 0..=MAKING + READY + 2 * WHOLE_APPEND {
+        for pick in [0, 1, 2, 5] {
+            let same = has_what_was_appended(&rt, rt.alloc(), stop, pick)?;
+            assert!(rt; same, "stop {stop} pick {pick}");
         }
     }
     Ok(())
