@@ -740,19 +740,25 @@ def say_as(server: Served, name: bytes, *lines: bytes) -> List[bytes]:
 
 
 def all_names(place: Place) -> str:
-    """Programs that come and go with a name each, under rules that name none of them: after 256 there is no new one. Those that are known go on."""
+    """Programs that come and go with a name each. Under rules that name none of them nothing is spent, and the name that the rules have
+    attaches then. Without rules there is no new name after 256, and those that are known go on."""
     rules = write(os.path.join(place.path, "etc", "rules.toml"), '[[rule]]\nprocess = "comfort"\npoint = "*"\n')
     with served(place, 4, journal=place.journal, files=[rules]) as server:
-        for number in range(256):
+        for number in range(257):
             answer, = say_as(server, b"visitor-%d" % number)
-            see(b'"ok":"attached"' in answer, f"visitor {number}: {answer!r}")
-        answer, = say_as(server, b"comfort")
-        see(answer == b'{"error":"too-many-processes"}\n', f"a name of the rules, as the 257th: {answer!r}")
-        see(eventually(lambda: b'"ok":"attached"' in say_as(server, b"visitor-0")[0], SLACK), "one that is known does not attach")
+            see(answer == b'{"error":"denied","index":0,"rule":0}\n', f"visitor {number}, under rules: {answer!r}")
+    # Nothing of them is in the journal, and the name is new.
     with served(place, 4, journal=place.journal, files=[rules]) as server:
         answer, = say_as(server, b"comfort")
-        see(b"too-many-processes" in answer, f"after a restart: {answer!r}")
-    return "the 257th name is refused, also where the rules have it, and after a restart; open to whoever connects"
+        see(answer == b'{"ok":"attached","process":"comfort","next":1}\n', f"a name of the rules, behind 257 others: {answer!r}")
+    with served(place, 4, journal=place.journal) as server:
+        for number in range(255):
+            answer, = say_as(server, b"visitor-%d" % number)
+            see(b'"ok":"attached"' in answer, f"visitor {number}, without rules: {answer!r}")
+        answer, = say_as(server, b"smoke")
+        see(answer == b'{"error":"too-many-processes"}\n', f"the 257th name: {answer!r}")
+        see(eventually(lambda: b'"ok":"attached"' in say_as(server, b"visitor-0")[0], SLACK), "one that is known does not attach")
+    return "under rules 257 names that they do not have spend nothing; without rules the 257th is refused"
 
 
 def numbers_used_up(place: Place) -> str:

@@ -307,13 +307,16 @@ def try_other_keys(folder: str) -> str:
 def try_beside_rules(folder: str) -> str:
     """Rules judge the name whose key was shown, and no other one can be said."""
     place = Place(folder)
-    with keyed(place, [A, B], [Rule("a", "lamp")]) as server:
+    with keyed(place, [A, B], [Rule("a", "lamp"), Rule("b-1", "fan")]) as server:
         with Connection(server) as a, Connection(server) as b:
             see("ok" in a.ask_all([{**attach("a"), "key": A.key}, submit(write("lamp"))])[1], "a may not write the lamp")
             answers = b.ask_all([{**attach("b-1"), "key": B.key}, submit(write("lamp"))])
             see(answers[1] == denied(0, 0), f"b-1: {answers}")
         see(asked_in_turn(server, [json.dumps({**attach("a"), "key": B.key})]) == [WRONG], "b-1's key is right for a")
-    return "a writes, b-1 is denied, and can't say that it is a"
+        # A name that no rule is for: with its key it is denied and goes on; without a right one it is told of the key alone.
+        see(asked_in_turn(server, [json.dumps({**attach("b-2"), "key": B.key}), json.dumps(READ)])[0] == denied(0, 0), "b-2 attaches")
+        see(asked_in_turn(server, [json.dumps({**attach("b-2"), "key": A.key})]) == [WRONG], "a's key is right for b-2")
+    return "a writes, b-1 is denied, and can't say that it is a; b-2 may not attach"
 
 
 # ---- files that are refused, and files that are not

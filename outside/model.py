@@ -1,6 +1,6 @@
 """A small model of the lease machine, written apart from the program: what a session is answered, what processes are told, and
 what devices are told; and how all that goes on under a changed catalogue, or with its moments taken back. Devices take every command. Moments are milliseconds, values
-thousandths. With access rules it denies writes. Beside it stands where a line is at fault that is no request."""
+thousandths. With access rules it denies names and writes. Beside it stands where a line is at fault that is no request."""
 
 import hashlib
 import json
@@ -368,6 +368,8 @@ class Machine:
 
     def act(self, session: int, request: Line, n: int) -> str:
         """What a request is answered. Of a process that numbers its requests each is made once, as long as the rules allow it."""
+        if request["op"] == "attach" and self.rules is not None and not any(fits(rule.process, request["process"]) for rule in self.rules):
+            return error("denied", index=0, rule=0)
         if request["op"] == "submit" and session in self.attached and self.rules is not None:
             for place, write in enumerate(request["writes"]):
                 rule = denying_rule(self.rules, self.processes[self.attached[session]], write)

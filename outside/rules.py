@@ -1,7 +1,7 @@
 """Tries the program with access rules, over journals.
 
 Tries the program with access rules, over journals: a batch of sixteen lines with attaches, allowed and denied submits, each reply in its
-place; batches made by chance under rules made by chance, beside the model of outside/model.py; what is denied beside a plan, at its
+place; names that no rule is for; batches made by chance under rules made by chance, beside the model of outside/model.py; what is denied beside a plan, at its
 device; a server that is stopped and opened under other rules; and files that are refused, each with its line and status 16.
 
     tools/rules [RUNS]
@@ -172,6 +172,28 @@ def see_told(connection: Connection, pairs: Iterable[tuple[Line, Line]]) -> None
         see(lasting(told) == wanted, f"{line} is answered {told} and not {wanted}")
 
 
+def try_names(folder: str) -> str:
+    """A name that no rule is for is denied before anything else is looked at; it is no event, and the connection goes on. A rule that
+    allows nothing admits its names."""
+    place = Place(folder)
+    rules = [Rule("a", "lamp"), Rule("night-*", "*", allow=False)]
+    attached = {"ok": "attached", "process": "a", "next": 1}
+    with place.server(rules) as server, Connection(server) as one, Connection(server) as two:
+        see_told(one, [(attach("b"), denied(0, 0)), (attach("night"), denied(0, 0)), (submit(write("lamp")), {"error": "not-attached"}),
+                       (attach("a"), attached), (attach("b"), denied(0, 0)), (attach("a"), {"error": "already", "process": "a"}),
+                       (submit(write("lamp")), {"ok": "accepted", "txn": 1}), (submit(write("fan", 2)), denied(0, 0))])
+        see_told(two, [(attach("nigh"), denied(0, 0)), (attach("night-"), {"ok": "attached", "process": "night-", "next": 1}),
+                       (submit(write("fan", 2)), denied(0, 2))])
+        with Connection(server) as third:
+            denial, told = third.ask_all([attach("b"), attach("a")])
+            see(denial == denied(0, 0), f"a name that no rule is for, beside one that is held: {denial}")
+            see(told.get("error") == "taken", f"a name that is held: {told}")
+        server.kill()
+    kept = place.check()
+    see((kept["events"], kept["leases"]) == (3, 1), f"the journal has {kept}")
+    return "names that no rule is for are denied before all else, and are no events"
+
+
 # ---- by chance, beside the model
 
 class Maker:
@@ -297,8 +319,9 @@ def try_other_rules(folder: str) -> str:
     # The rules of each life, and what is said under them.
     lives: list[tuple[list[Rule] | None, list[tuple[Line, Line]]]] = [
         ([Rule("a", "lamp", highest=8)], [attached, (first, accepted), (submit(write("lamp", 1, 7), seq=2), denied(0, 1))]),
-        ([], [read, (first, {"error": "not-attached"}), attached, (first, denied(0, 0)), (submit(write("lamp", 0, 8)), denied(0, 0)),
-              ({"op": "renew", "txn": 1, "length": 2 * HOUR}, {"ok": "renewed", "txn": 1}), read]),
+        ([], [read, (first, {"error": "not-attached"}), (attach("a"), denied(0, 0)), (first, {"error": "not-attached"}), stands]),
+        ([Rule("a", "fan")], [attached, (first, denied(0, 0)), (submit(write("lamp", 0, 8)), denied(0, 0)),
+                              ({"op": "renew", "txn": 1, "length": 2 * HOUR}, {"ok": "renewed", "txn": 1}), read]),
         ([Rule("*", "*", allow=False)], [attached, (first, denied(0, 1)), stands]),
         (None, [attached, (first, accepted), (submit(write("lamp", 0, 7), seq=2), {"ok": "accepted", "txn": 2})]),
         ([Rule("a", "fan")], [attached, ({"op": "cancel", "txn": 2}, {"ok": "cancelled", "txn": 2}), read,
@@ -452,7 +475,7 @@ def main() -> None:
     program.need_program()
     if not takes_rules():
         sys.exit("rules: this program takes no access rules")
-    is_fine = all_hold([("sixteen lines at once", try_sixteen), ("no rules", try_no_rules),
+    is_fine = all_hold([("sixteen lines at once", try_sixteen), ("no rules", try_no_rules), ("names", try_names),
                         ("by chance", lambda folder: try_by_chance(folder, runs)), ("beside a plan", try_beside_a_plan),
                         ("other rules", try_other_rules), ("files that are refused", try_refused_files),
                         ("files that are not", try_accepted_files), ("what comes first", try_order)])

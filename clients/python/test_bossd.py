@@ -502,6 +502,17 @@ class Denying(unittest.TestCase):
                 client.submit([damper()])
         self.assertEqual(caught.exception.fields, {"error": "denied", "index": 0, "rule": 0})
 
+    def test_a_name_that_no_rule_is_for(self):
+        """It is denied, and not asked again; the session asks all the same."""
+        server = self.answering(lambda asked: {"error": "denied", "index": 0, "rule": 0} if asked["op"] == "attach" else denying(0)(asked))
+        with bossd.Client(server.address) as client:
+            with self.assertRaises(bossd.Denied) as caught:
+                client.attach("visitor")
+            self.assertEqual(str(caught.exception), "denied: the process visitor, since no rule is for it")
+            self.assertEqual((caught.exception.point, caught.exception.rule), (None, 0))
+            self.assertEqual(client.ask({"op": "read", "point": "lamp"})["ok"], "read")
+        self.assertEqual([asked["op"] for asked in server.asked], ["attach", "read"])
+
     def test_one_of_many(self):
         with bossd.Client(self.answering(denying(3)).address, "a") as client:
             read, denied = client.ask_all([{"op": "read", "point": "lamp"}, {"op": "submit", "writes": [damper()]}])

@@ -104,7 +104,7 @@ process = "night-*"
 point = "ahu1.*"
 highest = 13
 [[rule]]
-process = "*"
+process = "c*"
 point = "*"
 allow = false
 """
@@ -331,7 +331,7 @@ class Linting(Folder):
         ]:
             with self.subTest(new):
                 self.assertEqual(self.of_rules(RULES.replace(old, new)), [(line, "rule 2", key, found, True)])
-        for new in ("*", longest + "*", longest + "n", "night-purge"):
+        for new in ("n*", longest + "*", longest + "n", "night-purge"):
             self.assertEqual(self.of_rules(RULES.replace("night-*", new)), [])
 
     def test_what_rules_can_hardly_mean(self):
@@ -342,6 +342,7 @@ class Linting(Folder):
             (RULES + '[[rule]]\nprocess = "comfort"\npoint = "lamp"\n', 13, "rule 4", "", "a rule that no write comes to"),
             (RULES[:RULES.index("[[rule]]", 1)].replace('"*"', '"ahu1.*"'), None, "", "", 'no rule for "lamp", "fan"'),
             ("rule = []\n", None, "", "", 'no rule for "ahu1.damper", "lamp", "fan"'),
+            (RULES.replace('"c*"', '"*"'), 10, "rule 3", "process", '"*", which lets every name attach'),
         ]:
             with self.subTest(found):
                 self.assertEqual(self.of_rules(text), [(line, table, key, found, False)])

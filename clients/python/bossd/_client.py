@@ -182,7 +182,7 @@ class Client(Session, Connection):
 
     def attach(self, process: str) -> int:
         """Becomes the control process of this name: 1 to 64 characters of `a-z 0-9 . _ -`. Gives the number of its next notice.
-        Malformed, WrongKey, Already, Taken, TooManyProcesses, NoMemory, Unanswered."""
+        Malformed, WrongKey, Denied, Already, Taken, TooManyProcesses, NoMemory, Unanswered."""
         return self._run(self._becoming(process))
 
     def submit(self, writes: Iterable[Mapping[str, Any]], policy: str = "abort") -> Accepted:

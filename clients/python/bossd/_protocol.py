@@ -157,13 +157,16 @@ class WrongKey(Refused):
 
 class Denied(Refused):
     """The server's access rules do not let the process make this write, so nothing of the request was made. `index`: the write, counted
-    from 0. `rule`: the rule that decided, counted from 1 in the server's file; 0 where no rule is for it. Asking again brings the same
-    answer: show it to whoever wrote the program, or keeps the rules."""
+    from 0. `rule`: the rule that decided, counted from 1 in the server's file; 0 where no rule is for it. Of an attach: no rule is for the
+    name, so nobody may be the process, and both are 0. Asking again brings the same answer: show it to whoever wrote the program, or keeps
+    the rules."""
 
     index: int
     rule: int
 
     def _why(self) -> str:
+        if self._asked("op") == "attach":
+            return f"the process {self._asked('process')}, since no rule is for it"
         rule = self._fields.get("rule")
         return f"{self.point} at priority {self.write.get('priority', 16)}, " + (f"by rule {rule}" if rule else "since no rule is for it")
 

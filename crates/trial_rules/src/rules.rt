@@ -119,6 +119,31 @@ fn the_first_rule_for_a_write_decides(rt: HostRuntime) {
     }
 }
 
+/// Rules, a name, and whether it is admitted.
+const NAMES: &[(&str, &str, bool)] = &[
+    (TWO_RULES, "a", true),
+    // A rule that allows nothing admits its names.
+    (TWO_RULES, "ab", true),
+    (ONE_RULE, "a", true),
+    (ONE_RULE, "ab", false),
+    (ONE_RULE, "ahu1.damper", false),
+    ("rule = []", "a", false),
+    (THREE_RULES, "night", true),
+    (THREE_RULES, "night-purge", true),
+    // The last rule alone is for it.
+    (THREE_RULES, "nights", true),
+    (THREE_RULES, "nigh", false),
+];
+
+#[test]
+fn a_name_is_admitted_by_any_rule_for_it(rt: HostRuntime) {
+    for (file, name, wanted) in NAMES {
+        let rules = Rules::read(rt.alloc(), file.as_bytes()).expect(&rt, "rules");
+        let process = Name::new(name.as_bytes()).expect(&rt, "a name");
+        assert_eq!(&rt; rules.admits(&process), *wanted, "{name}");
+    }
+}
+
 /// Files that are refused, for each test some, and the line that says why.
 const REFUSED: &[(&str, &str)] = &[
     ("rule=[", "rules not-toml\n"),

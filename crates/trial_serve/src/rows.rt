@@ -277,7 +277,7 @@ status 0
 "#,
     },
     Row {
-        shows: "what no rule is for is denied by rule 0, and who has no process is not attached",
+        shows: "a name that no rule is for is denied by rule 0, takes no number, and the connection goes on",
         setting: Setting {
             workers: &[&[
                 Talk {
@@ -302,11 +302,42 @@ status 0
 {"error":"denied","index":0,"rule":0}
 session 2
 {"error":"not-attached"}
-{"ok":"attached","process":"b","next":1}
 {"error":"denied","index":0,"rule":0}
+{"error":"not-attached"}
 pauses 0
 pauses 1 closed
-events 2 now 1000 leases 0 pending 0
+events 1 now 1000 leases 0 pending 0
+status 0
+"#,
+    },
+    // A denial comes before that the session has a process; a rule that allows nothing admits its name.
+    Row {
+        shows: "who has a process is denied another name that no rule is for, and keeps its own",
+        setting: Setting {
+            workers: &[&[
+                Talk {
+                    text: r#"{"op":"attach","process":"a"}
+{"op":"attach","process":"ab"}
+{"op":"attach","process":"b"}
+{"op":"submit","writes":[{"point":"ahu1.damper","value":45000,"priority":8,"lease":60000}]}
+"#,
+                    fails: 0,
+                },
+                ATTACH_B,
+            ]],
+            rules: "rule=[{process='a',point='ahu1.*',highest=8},{process='b',point='lamp',allow=false}]",
+            ..PLAIN
+        },
+        told: r#"session 1
+{"ok":"attached","process":"a","next":1}
+{"error":"denied","index":0,"rule":0}
+{"error":"already","process":"a"}
+{"ok":"accepted","txn":1,"until":61000}
+session 2
+{"ok":"attached","process":"b","next":1}
+pauses 0
+pauses 1 closed
+events 4 now 1000 leases 0 pending 0
 status 0
 "#,
     },
@@ -435,6 +466,40 @@ session 2
 {"ok":"read","point":"lamp","value":0,"from":"default","mark":"pending"}
 {"error":"wrong-key"}
 pauses 0
+pauses 0
+pauses 1 closed
+events 0 now 0 leases 0 pending 0
+status 0
+"#,
+    },
+    // The first shows no right key for `b`, and the second, which does, is no name of the rules.
+    Row {
+        shows: "a wrong key comes before what the rules say of a name",
+        setting: Setting {
+            workers: &[&[
+                Talk {
+                    text: r#"{"op":"attach","process":"b","key":"0123456789abcdefghijklmnopqrstuv"}
+{"op":"read","point":"lamp"}
+"#,
+                    fails: 0,
+                },
+                Talk {
+                    text: r#"{"op":"attach","process":"b","key":"bk1_K7gNU3sdo-OL0wNhqoVWhr3g6s1xYv72ol_pe_Unols"}
+{"op":"read","point":"lamp"}
+"#,
+                    fails: 0,
+                },
+            ]],
+            moments: &[0],
+            rules: "rule=[{process='a',point='*'}]",
+            keys: TWO_KEYS,
+            ..PLAIN
+        },
+        told: r#"session 1
+{"error":"wrong-key"}
+session 2
+{"error":"denied","index":0,"rule":0}
+{"ok":"read","point":"lamp","value":0,"from":"default","mark":"pending"}
 pauses 0
 pauses 1 closed
 events 0 now 0 leases 0 pending 0

@@ -362,10 +362,12 @@ def override_row(one: Dict[str, Any], point: Optional[Point], has_ended: bool) -
 
 @contextlib.contextmanager
 def denials(client: Client, *writes: Request) -> Iterator[None]:
-    """Says of a denial which write it is about, and which rule."""
+    """Says of a denial which write it is about, and which rule, or that no rule is for the process."""
     try:
         yield
     except Denied as error:
+        if (error.request or {}).get("op") == "attach":
+            raise Failure(f"refused: no rule of the rules file is for the process {client.process}") from error
         one = writes[error.index]
         whose = f"for {client.process} at priority {one['priority']}"
         why = f"by rule {error.rule} of the rules file, {whose}" if error.rule else f"{whose}: no rule of the rules file is for it"

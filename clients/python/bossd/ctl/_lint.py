@@ -299,6 +299,7 @@ class Rules(Numbered):
                 self._rule(("rule", place), rule)
             if not any(finding.is_mistake for finding in self.findings):
                 self._unruled()
+                self._open()
 
     def _rule(self, path: Path, rule: Any) -> None:
         if not isinstance(rule, dict):
@@ -336,6 +337,13 @@ class Rules(Numbered):
         if names:
             first = ", ".join(map(shown, names[:MOST_NAMES])) + (f" and {len(names) - MOST_NAMES} more" if len(names) > MOST_NAMES else "")
             self.note((), "", f"no rule for {first}", "nobody may write what no rule is for", is_mistake=False)
+
+    def _open(self) -> None:
+        """Notes the first rule that admits every name."""
+        number = next((rule.number for rule in self.earlier if rule.process == "*"), None)
+        if number is not None:
+            self.note(("rule", number - 1, "process"), "", '"*", which lets every name attach',
+                      "the names that may: a journal forgets none, and has room for 256", is_mistake=False)
 
 
 def matches(pattern: str, name: str) -> bool:
