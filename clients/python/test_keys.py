@@ -709,6 +709,21 @@ class Linting(Case):
         self.assertIn("[key] again", [found for _, _, _, found, _ in self.found(good.replace("[[key]]", "[key]") * 2)])
         self.assertIn((1, "", "key", "513 of them", True), self.found("".join(self.table(f"p{place}", f"{place:040}") for place in range(513))))
 
+    def test_reserve(self) -> None:
+        good = self.table("comfort")
+        for number in ("0", "4", "1_024"):
+            self.assertEqual(self.found(f"reserve = {number}\n" + good), [])
+        for value, found in (("1_025", "1025"), ("-1", "-1"), ('"4"', '"4"'), ("4.0", "4.0"), ("true", "true"), ("[4]", "an array of 1")):
+            self.assertEqual(self.found(f"# workers\nreserve = {value}\n" + good), [(2, "", "reserve", found, True)])
+        # Below a header it is a key of that table, whose other keys are fine.
+        self.assertEqual(self.found(good + "reserve = 4\n"), [(4, "key 1", "reserve", "a key of the file in this table", True)])
+        self.assertEqual(self.found(good + self.table("page", OTHER) + "\nreserve = 4\n"),
+                         [(8, "key 2", "reserve", "a key of the file in this table", True)])
+        for key in ("reserved", "reserves", "Reserve", "resrve"):
+            self.assertEqual(self.found(f"{key} = 4\n" + good), [(1, "", key, "a key that nothing reads", True)], key)
+        (_, _, key, _, is_mistake), = self.found("title = 1\n" + good)
+        self.assertEqual((key, is_mistake), ("title", False))
+
     def test_what_is_odd(self) -> None:
         self.assertEqual(self.found(self.table("*")), [(2, "key 1", "process", '"*", whose key is right for every name', False)])
         self.assertEqual(self.found(self.table("comfort") + self.table("night-1", OTHER) + self.table("page", MASTER), RULES),

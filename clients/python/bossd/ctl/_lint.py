@@ -9,7 +9,7 @@ from . import _bacnet, _forms, _show, _toml
 from ._toml import Broken, Failure, Lines, Path
 
 LONGEST_FILE = 1_048_576
-MOST_DRIVERS, MOST_POINTS, MOST_RULES, MOST_KEYS = 256, 4_096, 256, 512
+MOST_DRIVERS, MOST_POINTS, MOST_RULES, MOST_KEYS, MOST_RESERVE = 256, 4_096, 256, 512, 1_024
 BOUND = 10**15
 A_DAY = 86_400_000
 A_NAME = "1 to 64 characters of a-z 0-9 . _ -"
@@ -366,10 +366,11 @@ def meet(pattern: str, other: str) -> bool:
 KEY_KEYS = ("process", "sha256")
 A_DIGEST = "64 characters of 0-9 a-f: the SHA-256 of the key's characters, as bossctl key writes it"
 DIGEST = re.compile(r"[0-9a-f]{64}", re.ASCII)
+A_RESERVE = f"how many workers are kept for whoever shows a key: a whole number of 0 to {MOST_RESERVE}"
 
 
 class Keys(Numbered):
-    """Digests of keys: an array of tables `key`, each for one name, or for those that begin so."""
+    """Digests of keys: an array of tables `key`, each for one name, or for those that begin so; and how many workers are kept for whoever shows one."""
 
     def __init__(self, path: str, rules: Optional[Rules]) -> None:
         super().__init__(path)
@@ -377,7 +378,8 @@ class Keys(Numbered):
         self.processes: List[str] = []
         self.digests: Dict[str, int] = {}
         if self.is_read:
-            self.known((), "", self.tables, ("key",))
+            self.known((), "", self.tables, ("key", "reserve"))
+            self.one((), "", self.tables, "reserve", lambda value: is_whole(value, 0, MOST_RESERVE), A_RESERVE, default=0)
             for place, key in enumerate(self.array("key", MOST_KEYS, "keys, each a table [[key]]")):
                 self._key(("key", place), key)
             if rules is not None and not any(finding.is_mistake for finding in self.findings + rules.findings):
@@ -393,7 +395,10 @@ class Keys(Numbered):
             earlier = self.digests.setdefault(key["sha256"], int(path[1]) + 1)
             if earlier != int(path[1]) + 1:
                 self.note(path + ("sha256",), "", f"the digest of key {earlier} again", "a key of its own, so that each can be changed alone", is_mistake=False)
-        self.known(path, "", key, KEY_KEYS, is_refused=True)
+        self.known(path, "", {name: value for name, value in key.items() if name != "reserve"}, KEY_KEYS, is_refused=True)
+        if "reserve" in key:
+            # TOML takes what stands below a header as that table's.
+            self.note(path + ("reserve",), "", "a key of the file in this table", "reserve above the first [[key]]")
 
     def _process(self, path: Path, process: str) -> None:
         self.processes.append(process)
