@@ -11,9 +11,9 @@ import subprocess
 import sys
 import threading
 import time
-from typing import Iterator, List, NamedTuple, Sequence
+from typing import Iterator, List, NamedTuple, Optional, Sequence
 
-from outside.attack import ARRAY, ATTACH, HOLD, PACKAGING, SLACK, SOON, Case, Place, Served, run, say, served, text_of, write
+from outside.attack import ARRAY, ATTACH, HOLD, PACKAGING, SLACK, SOON, Case, Place, Served, is_over, run, say, served, text_of, write
 from outside.cases import see
 from outside.keys import digest, key_of
 from outside.program import eventually, free_port
@@ -26,15 +26,16 @@ RATE, LONG, STRANGERS, ASKERS = 10_000, 10.0, 3, 4
 SLOWER = 20.0
 
 
-def file_of(place: Place, **keys: str) -> str:
-    """A file of keys, for these processes or for those of KEYS."""
-    tables = (f'[[key]]\nprocess = "{process}"\nsha256 = "{digest(key)}"\n' for process, key in (keys or KEYS).items())
-    return write(os.path.join(place.path, "etc", "keys.toml"), "".join(tables))
+def file_of(place: Place, reserve: int = 0) -> str:
+    """A file of keys for the processes of KEYS, which keeps so many workers."""
+    kept = f"reserve = {reserve}\n" if reserve else ""
+    tables = (f'[[key]]\nprocess = "{process}"\nsha256 = "{digest(key)}"\n' for process, key in KEYS.items())
+    return write(os.path.join(place.path, "etc", "keys.toml"), kept + "".join(tables))
 
 
 @contextlib.contextmanager
-def with_keys(place: Place, workers: int, journal: str = "-") -> Iterator[Served]:
-    with served(place, workers, journal=journal, files=["-", "-", file_of(place)]) as server:
+def with_keys(place: Place, workers: int, journal: str = "-", reserve: int = 0) -> Iterator[Served]:
+    with served(place, workers, journal=journal, files=["-", "-", file_of(place, reserve)]) as server:
         yield server
 
 
@@ -234,6 +235,69 @@ def many_wrong_keys(place: Place) -> str:
             f"{before.hundredth:.2f} ms before, {during.hundredth:.2f} meanwhile and {after.hundredth:.2f} after; a load of {os.getloadavg()[0]:.1f}")
 
 
+# ---- workers that are kept
+
+# How long, in seconds, a worker that is kept waits for a first line; by when one with a key is served behind SILENT strangers at four workers,
+# two of which are kept; and how long he waits there in vain where none is.
+SHOWING, SERVED, IN_VAIN, SILENT = 1.0, 4.0, 6.0, 8
+
+
+def silent_beside_reserve(place: Place) -> str:
+    """Twice as many strangers as there are workers, who say nothing: behind them who has a key is served within four seconds where half of the
+    workers are kept, and is not within six where none is. What he holds at a worker that is kept he holds on, though he is still."""
+    with with_keys(place, 4, reserve=2) as server, contextlib.ExitStack() as stack:
+        beside(server, stack)
+        after = answered_after(server, stack, SERVED)
+        see(after is not None, f"who has a key is not served within {SERVED} s, though two workers of four are kept")
+    with with_keys(place, 4) as server, contextlib.ExitStack() as stack:
+        beside(server, stack)
+        see(answered_after(server, stack, IN_VAIN) is None, f"who has a key is served within {IN_VAIN} s, though no worker is kept: this case shows nothing")
+    # More are kept than there are.
+    with with_keys(place, 2, reserve=1_024) as server, contextlib.ExitStack() as stack:
+        still = stack.enter_context(contextlib.closing(server.link()))
+        see(b'"ok":"attached"' in say(still, shown(ATTACH, KEYS["comfort"])) and b'"ok":"accepted"' in say(still, HOLD), "comfort is not let in")
+        began = time.monotonic()
+        slow = stack.enter_context(contextlib.closing(server.link()))
+        slow.sendall(b'{"op":"read",')
+        while not is_over(slow) and time.monotonic() - began < SHOWING + SLACK:
+            time.sleep(0.1)
+            with contextlib.suppress(OSError):
+                slow.send(b" ")
+        ended = time.monotonic() - began
+        see(SHOWING - 0.1 <= ended < SHOWING + SLACK, f"a first line that does not end is over after {ended:.1f} s")
+        time.sleep(2 * SHOWING)
+        see(b'"value":60000' in say(still, ARRAY), "who has shown a key and was still then has lost his connection")
+    return f"served after {after:.1f} s behind {SILENT}; not within {IN_VAIN:.0f} s without a reserve; a first line without an end is over after {ended:.1f} s"
+
+
+def blank_beside_reserve(place: Place) -> str:
+    """A stranger whose first line is blank, or is no object, at workers that are kept: neither shows a key, and neither ends his connection, so he
+    holds that worker as long as he likes. Open."""
+    lines = (b"\n", b"{\n", b"[]\n")
+    with with_keys(place, len(lines), reserve=len(lines)) as server, contextlib.ExitStack() as stack:
+        links = [stack.enter_context(contextlib.closing(server.link())) for _ in lines]
+        for link, line in zip(links, lines):
+            link.sendall(line)
+        see(answered_after(server, stack, IN_VAIN) is None, "who has a key is served behind them: it is open no longer, so say so")
+    return f"who has a key is not served within {IN_VAIN:.0f} s: open"
+
+
+def beside(server: Served, stack: contextlib.ExitStack) -> None:
+    """Strangers who connect and say nothing, for as long as the stack is open."""
+    for _ in range(SILENT):
+        stack.enter_context(contextlib.closing(server.link()))
+
+
+def answered_after(server: Served, stack: contextlib.ExitStack, within: float) -> Optional[float]:
+    """After how many seconds a question with a key is answered, by one who connects now; None where it is not within so many."""
+    began = time.monotonic()
+    link = stack.enter_context(contextlib.closing(server.link()))
+    link.settimeout(within)
+    answer = say(link, shown(READ, KEYS["page"]))
+    see(answer == b"" or b'"ok":"read"' in answer, f"who has a key is answered {answer!r}")
+    return time.monotonic() - began if answer else None
+
+
 # ---- where a key may be left
 
 def left_nowhere(place: Place) -> str:
@@ -282,5 +346,5 @@ def takes_keys(place: Place) -> bool:
     return run(words, os.environ).output == "keys missing\n"
 
 
-WITH_KEYS: Sequence[Case] = (guessed, in_the_wrong_place, replayed, another_name_later, many_wrong_keys, left_nowhere)
+WITH_KEYS: Sequence[Case] = (guessed, in_the_wrong_place, replayed, another_name_later, many_wrong_keys, silent_beside_reserve, blank_beside_reserve, left_nowhere)
 EVER: Sequence[Case] = (units_without_cores,)

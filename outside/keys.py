@@ -339,11 +339,18 @@ def refused_files() -> list[tuple[str | bytes, str]]:
         *((f'[[key]]\nprocess = "a"\nsha256 = {text}\n', "bad-key 1")
           for text in ('""', f'"{SHA[1:]}"', f'"{SHA}0"', f'"{SHA.upper()}"', f'"{SHA[:-1]}g"', f'" {SHA[1:]}"', "1", f'["{SHA}"]')),
         (ONE.replace('"a"', "1"), "bad-key 1"),
+        *((f"reserve = {text}\n" + ONE, "bad-reserve")
+          for text in ("1_025", "4294967296", "-1", '"4"', "4.0", "true", "[4]", "{ workers = 4 }")),
+        (ONE + "[reserve]\nworkers = 4\n", "bad-reserve"), ("key = []\nreserve = -1\n", "bad-reserve"),
+        # Below a header it is of that table, and each earlier test comes first.
+        (ONE + "reserve = 4\n", "bad-key 1"), (ONE + ONE + "reserve = 4\n", "bad-key 2"), ("reserve = -1\n" + ONE + "x = 1\n", "bad-key 1"),
+        ("reserve = -1\n", "missing"), ("reserve = -1\n" + ONE * 513, "too-many 513"), ("reserve = 4\nreserve = 4\n" + ONE, "not-toml"),
     ]
 
 
 def accepted_files() -> list[str]:
     return ["key = []\n", ONE * 512, 'title = "keys"\n' + ONE + "[other]\nx = 1\n", "#" * (1_048_576 - len(ONE) - 1) + "\n" + ONE,
+            *(f"reserve = {text}\n" + ONE for text in ("0", "1", "4", "1_024")), "key = []\nreserve = 4 # above the first header\n", ONE + "[other]\nreserve = -1\n",
             *(ONE.replace('"a"', f'"{text}"') for text in ("*", "a*", LONGEST + "*", LONGEST + "n", "no.such-process_1"))]
 
 
