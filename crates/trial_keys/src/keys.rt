@@ -433,6 +433,56 @@ fn accepts_the_bounds(rt: HostRuntime) {
     }
 }
 
+/// How many workers files keep: none where they tell no number, and each bound.
+const RESERVES: &[(&str, u32)] = &[
+    ("key=[]", 0),
+    ("reserve=0\nkey=[]", 0),
+    ("reserve=4\nkey=[]", 4),
+    (
+        "reserve = 4 # of 16\n\n[[key]]\nprocess='*'\nsha256='dddddddddddddddddddddddddddddddddddddddddddddddddddddddddddddddd'\n",
+        4,
+    ),
+    ("key=[]\nreserve=+1_024", 1024),
+    ("reserve=1024\nkey=[]", 1024),
+    ("key=[]\n[more]\nreserve=4", 0),
+];
+
+#[test]
+fn tells_how_many_workers_are_kept(rt: HostRuntime) {
+    for (file, wanted) in RESERVES {
+        let reserve = KeyFile::read(rt.alloc(), file.as_bytes())
+            .expect(&rt, "keys")
+            .reserve;
+        assert_eq!(&rt; reserve, *wanted, "{file}");
+    }
+}
+
+/// Files whose `reserve` is refused, or stands in the table of a key, or behind another fault.
+const RESERVES_REFUSED: &[(&str, &str)] = &[
+    ("reserve=1025\nkey=[]", "keys bad-reserve\n"),
+    ("reserve=4294967296\nkey=[]", "keys bad-reserve\n"),
+    ("reserve=-1\nkey=[]", "keys bad-reserve\n"),
+    ("reserve='4'\nkey=[]", "keys bad-reserve\n"),
+    ("reserve=4.0\nkey=[]", "keys bad-reserve\n"),
+    ("reserve=true\nkey=[]", "keys bad-reserve\n"),
+    ("reserve=[4]\nkey=[]", "keys bad-reserve\n"),
+    ("key=[]\n[reserve]\nworkers=4", "keys bad-reserve\n"),
+    (
+        "[[key]]\nprocess='*'\nsha256='dddddddddddddddddddddddddddddddddddddddddddddddddddddddddddddddd'\nreserve=4",
+        "keys bad-key 1\n",
+    ),
+    ("reserve=-1\nkey=[{}]", "keys bad-key 1\n"),
+    ("reserve=-1", "keys missing\n"),
+];
+
+#[test]
+fn refuses_each_faulty_reserve(rt: HostRuntime) {
+    for (file, wanted) in RESERVES_REFUSED {
+        let refused = is_refused(&rt, rt.alloc(), file.as_bytes(), wanted);
+        assert!(rt; refused, "{file}");
+    }
+}
+
 /// What is shown of a refusal.
 const SAID: &[(KeysRefusal, &str)] = &[
     (
@@ -451,6 +501,10 @@ const SAID: &[(KeysRefusal, &str)] = &[
     (
         KeysRefusal::BadKey { place: 2 },
         "the key 2 is none: its process or sha256 is of another form, or it has another key",
+    ),
+    (
+        KeysRefusal::BadReserve,
+        "reserve is no whole number from 0 to 1024",
     ),
     (KeysRefusal::NoMemory, "out of memory"),
 ];
