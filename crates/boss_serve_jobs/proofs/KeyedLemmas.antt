@@ -16,5 +16,5 @@ pub works-keyed : (catalogue : Catalogue) (gates : List Gate) (keys : Option (Li
     AreByKeys (actuators catalogue) known log works
 works-keyed catalogue gates keys heeds tells pausing log works agreed known are heard =
     let by : Agreed (actuators catalogue) (says catalogue gates (Some known) heeds tells pausing) log works =
-        subst (λ k. Agreed (actuators catalogue) (says catalogue gates k heeds tells pausing) log works) are agreed in
+    subst (λ k. Agreed (actuators catalogue) (says catalogue gates k heeds tells pausing) log works) are agreed in
     works-shown catalogue gates known (keys-guard catalogue known) heeds tells pausing log heard works by.each
