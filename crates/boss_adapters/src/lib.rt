@@ -21,6 +21,7 @@ mod real_spawner;
 mod real_waiter;
 mod running;
 mod shared;
+mod showing;
 mod signals;
 
 pub use aside::say_aside;

@@ -6,10 +6,6 @@ use std::time::Duration;
 /// How long a line may take from its first byte to its end, and a connection until the end of its first line, in milliseconds.
 const LONGEST_LINE: u64 = 60_000;
 
-/// How long a connection may take until the end of its first line at a worker that is kept for whoever shows a key, in milliseconds: a
-/// program sends that line at once.
-const LONGEST_SHOWING: u64 = 1_000;
-
 /// By when the end of a line has to come in by a connection. It counts from the line's first byte, so bytes that come in meanwhile win
 /// no time.
 #[derive(Drop)]
@@ -21,16 +17,7 @@ pub struct Patience {
 impl Patience {
     /// For a connection that was made now.
     pub fn new() -> Patience {
-        Patience {
-            due: in_a_while(LONGEST_LINE),
-        }
-    }
-
-    /// For one that was made now to a worker that is kept for whoever shows a key.
-    pub fn for_a_kept_worker() -> Patience {
-        Patience {
-            due: in_a_while(LONGEST_SHOWING),
-        }
+        Patience { due: in_a_while() }
     }
 
     /// How long the next read may wait: a millisecond where the end is overdue, for bytes that are there; none: as long as it takes.
@@ -45,12 +32,12 @@ impl Patience {
         if bytes.last() == Some(&b'\n') {
             self.due = None;
         } else if self.due.is_none() || bytes.contains(&b'\n') {
-            self.due = in_a_while(LONGEST_LINE);
+            self.due = in_a_while();
         }
     }
 }
 
-/// So many milliseconds from now, by when the end of a line has to come in.
-fn in_a_while(milliseconds: u64) -> Option<u64> {
-    Some(awake()?.saturating_add(milliseconds))
+/// By when the end of a line has to come in that is begun now.
+fn in_a_while() -> Option<u64> {
+    Some(awake()?.saturating_add(LONGEST_LINE))
 }

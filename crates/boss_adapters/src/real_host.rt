@@ -2,8 +2,8 @@ ghost use Rattle.std.specs.Prelude.{◌≡◌, [], IfOk};
 ghost use Rattle.boss_outside.specs.Counts.{one_more};
 
 use crate::aside::say_aside;
-use crate::patience::Patience;
 use crate::peers::keep_alive;
+use crate::showing::Showing;
 use crate::{Door, RealSink, RealSource};
 use boss_model::{NoMemory, PROGRAM_VERSION, SessionId};
 use boss_outside::Failed;
@@ -12,6 +12,7 @@ use std::alloc::Global;
 use std::io::{self, Eprint, ErrorKind};
 use std::net::{Net, SocketAddr, TcpListener, TcpStream};
 use std::sync::Arc;
+use std::sync::atomic::AtomicBool;
 use std::thread;
 use std::time::{Clock, Duration};
 
@@ -36,8 +37,7 @@ const MOST_PAUSES: u32 = 3_600;
 /// nowhere. Whether keys are asked for is no business of its own: it only says so (`say_keyed`).
 ///
 /// Where workers are kept for whoever shows a key (`reserve` of what it announces), they are the first parts that are split off. Whoever
-/// connects to one of these has a second for its first line, which shows a key or ends the connection. So one that shows none never
-/// holds such a worker for longer.
+/// connects to one of these has a second to show one (`Showing`).
 #[derive(Drop)]
 pub struct RealHost<R> {
     alloc: Global,
@@ -47,7 +47,7 @@ pub struct RealHost<R> {
     is_keyed: bool,
     /// How many parts are still to be split off that are kept for whoever shows a key.
     reserve: u32,
-    /// Whoever connects here has a second for its first line, in place of a minute.
+    /// Whoever connects here has a second to show a key.
     is_kept: bool,
     handed: u64,
     share: u32,
@@ -173,12 +173,15 @@ impl<R: Net<Listener = TcpListener, Stream = TcpStream> + Eprint + Clock + Copy>
         let _ = stream.set_nodelay(true);
         let stream = Arc::new(self.alloc, stream)?;
         let other = Arc::try_clone(&stream)?;
-        let patience = if self.is_kept {
-            Patience::for_a_kept_worker()
-        } else {
-            Patience::new()
-        };
-        Ok((RealSource::new(stream, patience), RealSink::new(other)))
+        if !self.is_kept {
+            return Ok((RealSource::new(stream, None), RealSink::new(other, None)));
+        }
+        let is_shown = Arc::new(self.alloc, AtomicBool::new(false))?;
+        let showing = Showing::new(Arc::try_clone(&is_shown)?);
+        Ok((
+            RealSource::new(stream, Some(showing)),
+            RealSink::new(other, Some(is_shown)),
+        ))
     }
 
     /// Says why a connection could not be accepted.

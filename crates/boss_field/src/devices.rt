@@ -33,8 +33,9 @@ pub struct FieldDevices<R> {
     rt: R,
     /// What is spoken; nothing as long as the devices are simulated.
     speaks: Option<Protocol>,
-    modbus: ModbusDevice<RealLink<R>>,
-    bacnet: BacnetDevice<RealDatagrams<R>>,
+    // Each has some thousand bytes, and a server moves its drivers' workers about on its stack.
+    modbus: Box<ModbusDevice<RealLink<R>>>,
+    bacnet: Box<BacnetDevice<RealDatagrams<R>>>,
     troubles: Vec<Trouble>,
     /// Whether the host could not be reached.
     is_away: bool,
@@ -49,20 +50,26 @@ struct Trouble {
 }
 
 impl<R: Net<Listener = TcpListener, Stream = TcpStream> + Clock + Eprint + Copy> FieldDevices<R> {
-    /// Simulated devices. `rt` is what connects them once they are assigned a part, and what lines are written by.
-    pub fn new(alloc: Global, rt: R) -> FieldDevices<R>
-        ensures speaks { result.speaks ≡ None }
-        ensures faults { result.faults ≡ 0 }
+    /// Simulated devices, unless there is no memory. `rt` is what connects them once they are assigned a part, and what lines are written by.
+    pub fn new(alloc: Global, rt: R) -> Result<FieldDevices<R>, AllocError>
+        ensures speaks { IfOk result (λ devices. devices.speaks ≡ None) }
+        ensures faults { IfOk result (λ devices. devices.faults ≡ 0) }
     {
-        FieldDevices {
+        Ok(FieldDevices {
             rt,
             speaks: None,
-            modbus: ModbusDevice::new(alloc, RealLink::new(rt, FIRST_WAIT)),
-            bacnet: BacnetDevice::new(alloc, RealDatagrams::new(rt, FIRST_WAIT)),
+            modbus: Box::new(
+                alloc,
+                ModbusDevice::new(alloc, RealLink::new(rt, FIRST_WAIT)),
+            )?,
+            bacnet: Box::new(
+                alloc,
+                BacnetDevice::new(alloc, RealDatagrams::new(rt, FIRST_WAIT)),
+            )?,
             troubles: Vec::new(alloc),
             is_away: false,
             faults: 0,
-        }
+        })
     }
 
     /// What came before of what a point's device was asked, as far as it was a trouble.
@@ -91,8 +98,8 @@ impl<R: Net<Listener = TcpListener, Stream = TcpStream> + Clock + Eprint + Copy>
     /// Writes a Modbus device.
     fn write_over_modbus(&mut self, point: PointId, value: i64) -> Result<(), Failed>
         ensures cause { HasCause self.old.faults self.new.faults result }
-        ensures wrote { Wrote ⟦<RealLink<R> as Link>⟧ point value self.old.modbus self.new.modbus }
-        ensures answers { Answers self.new.modbus.fate result }
+        ensures wrote { Wrote ⟦<RealLink<R> as Link>⟧ point value self.old.modbus.value self.new.modbus.value }
+        ensures answers { Answers self.new.modbus.value.fate result }
     {
         let answer = self.modbus.write(point, value);
         self.report(Protocol::Modbus, point, None);
@@ -106,8 +113,8 @@ impl<R: Net<Listener = TcpListener, Stream = TcpStream> + Clock + Eprint + Copy>
     /// Writes a BACnet device.
     fn write_over_bacnet(&mut self, point: PointId, value: i64) -> Result<(), Failed>
         ensures cause { HasCause self.old.faults self.new.faults result }
-        ensures wrote { bacnet.Wrote ⟦<RealDatagrams<R> as Datagrams>⟧ point value self.old.bacnet self.new.bacnet }
-        ensures answers { bacnet.Answers self.new.bacnet.fate result }
+        ensures wrote { bacnet.Wrote ⟦<RealDatagrams<R> as Datagrams>⟧ point value self.old.bacnet.value self.new.bacnet.value }
+        ensures answers { bacnet.Answers self.new.bacnet.value.fate result }
     {
         let answer = self.bacnet.write(point, value);
         self.report(Protocol::Bacnet, point, None);
@@ -254,17 +261,17 @@ impl<R: Net<Listener = TcpListener, Stream = TcpStream> + Clock + Eprint + Copy>
     ghost faults = { λ devices. devices.faults };
 
     ghost assigned = { λ old part new. (new.speaks ≡ Some part.speaks)
-        × (part.speaks ≡ Modbus → new.modbus.part ≡ Some part) × (part.speaks ≡ Bacnet → new.bacnet.part ≡ Some part) };
+        × (part.speaks ≡ Modbus → new.modbus.value.part ≡ Some part) × (part.speaks ≡ Bacnet → new.bacnet.value.part ≡ Some part) };
 
     fn write(&mut self, point: PointId, value: i64) -> Result<(), Failed>
         ensures cause { HasCause self.old.faults self.new.faults result }
         // Simulated devices take every command.
         ensures simulated { self.old.speaks ≡ None → IsOk result × (self.new ≡ self.old) }
         // Those with a part write what a device of its protocol writes.
-        ensures modbus { self.old.speaks ≡ Some Modbus → Wrote ⟦<RealLink<R> as Link>⟧ point value self.old.modbus self.new.modbus
-            × Answers self.new.modbus.fate result }
-        ensures bacnet { self.old.speaks ≡ Some Bacnet → bacnet.Wrote ⟦<RealDatagrams<R> as Datagrams>⟧ point value self.old.bacnet self.new.bacnet
-            × bacnet.Answers self.new.bacnet.fate result }
+        ensures modbus { self.old.speaks ≡ Some Modbus → Wrote ⟦<RealLink<R> as Link>⟧ point value self.old.modbus.value self.new.modbus.value
+            × Answers self.new.modbus.value.fate result }
+        ensures bacnet { self.old.speaks ≡ Some Bacnet → bacnet.Wrote ⟦<RealDatagrams<R> as Datagrams>⟧ point value self.old.bacnet.value self.new.bacnet.value
+            × bacnet.Answers self.new.bacnet.value.fate result }
     {
         match self.speaks {
             None => Ok(()),
@@ -322,7 +329,7 @@ pub fn field_devices<R: Net<Listener = TcpListener, Stream = TcpStream> + Clock 
 {
     let mut devices = Vec::new(alloc);
     for _ in 0..drivers {
-        devices.push(FieldDevices::new(alloc, rt))?;
+        devices.push(FieldDevices::new(alloc, rt)?)?;
     }
     Ok(devices)
 }

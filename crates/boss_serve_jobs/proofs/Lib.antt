@@ -1,5 +1,6 @@
 pub mod BackLemmas
 pub mod BeginLemmas
+pub mod KeyedLemmas
 pub mod KeyingLemmas
 pub mod ListenLemmas
 pub mod PreparingLemmas

@@ -57,7 +57,7 @@ fn a_device_on_a_socket_takes_writes(rt: HostRuntime) -> Result<(), Fail> {
 #[test]
 fn devices_are_simulated_until_they_are_assigned(rt: HostRuntime) -> Result<(), Fail> {
     let listener = TcpListener::bind(&rt, "127.0.0.1:0")?;
-    let mut devices = FieldDevices::new(rt.alloc(), &rt);
+    let mut devices = FieldDevices::new(rt.alloc(), &rt).expect(&rt, "memory");
     assert!(&rt; devices.write(LAMP, 1).is_ok());
     assign_to(rt.alloc(), &listener, &mut devices)?;
     assert!(&rt; turn_on(&rt, &listener, &mut devices));
@@ -96,7 +96,7 @@ fn devices_behind_a_socket_for_datagrams_take_writes(rt: HostRuntime) -> Result<
     let alloc = rt.alloc();
     let socket = UdpSocket::bind(&rt, "127.0.0.1:0")?;
     let host = format!(in alloc; "{}", socket.local_addr()?)?;
-    let mut devices = FieldDevices::new(alloc, &rt);
+    let mut devices = FieldDevices::new(alloc, &rt).expect(&rt, "memory");
     devices.assign(part_over_bacnet(alloc, host.as_bytes())?);
     assert!(&rt; set_damper(&rt, &socket, &mut devices));
     assert!(&rt; set_damper(&rt, &socket, &mut devices));
@@ -139,7 +139,7 @@ fn a_silent_unit_is_left_alone_and_the_connection_kept(rt: HostRuntime) -> Resul
     let listener = TcpListener::bind(&rt, "127.0.0.1:0")?;
     let alloc = rt.alloc();
     let host = format!(in alloc; "{}", listener.local_addr()?)?;
-    let mut devices = FieldDevices::new(alloc, &rt);
+    let mut devices = FieldDevices::new(alloc, &rt).expect(&rt, "memory");
     devices.assign(part_of_two_units(alloc, host.as_bytes())?);
     // Unit 2 is asked once, and that ends the connection. It is not asked the second time, and the next write goes over the same one.
     let writes = [

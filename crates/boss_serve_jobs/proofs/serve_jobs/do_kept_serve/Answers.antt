@@ -1,8 +1,7 @@
-use Rattle.std.proofs.Common.{[], ◌∷◌, ◌++◌, inl, inr, refl, ◌∙◌, vec_len}
+use Rattle.std.proofs.Common.{[], ◌∷◌, ◌++◌, inl, inr, refl, sym, ◌∙◌, vec_len}
 use Rattle.boss_files.specs.Names.{second_name}
 use Rattle.boss_jobs.specs.Journals.{in_files}
 use Rattle.boss_server.specs.Sites.{gates_of}
-use Rattle.boss_serve_jobs.specs.Keying.{keys_in}
 use Rattle.boss_serve_jobs.specs.Preparing.{listed}
 use Rattle.boss_serve_jobs.specs.ServeJobs.{all_at_start}
 use Rattle.boss_jobs.proofs.Lifting.{later-follow}
@@ -31,12 +30,12 @@ returns-clause-serves g c =
         keyed = ready.keyed;
         devices = c.prepare.new.devices.items;
         set = ready.set;
-        serves = serves-so g.K.Sink g.A.Actuators g.H.Host g.H.In.Source g.H.Out.Sink g.C.Clock g.W.Waiter g.P.Spawner c.in-Ok.made.0 (gates_of c.in-Ok.made.0 c.in-Ok.made.1) (keys_in c.in-Ok.made.2) c.args.service.workers c.args.service.connections _ _ _
+        serves = rw (sym c.parted-keys.ensures.keys) (serves-so g.K.Sink g.A.Actuators g.H.Host g.H.In.Source g.H.Out.Sink g.C.Clock g.W.Waiter g.P.Spawner c.in-Ok.made.0 (gates_of c.in-Ok.made.0 c.in-Ok.made.1) _ c.args.service.workers c.args.service.connections _ _ _
             (in_files f journal given.files.now) (in_files f journal c.serve_in_files.new.files) (in_files f journal c.prepare.new.files) (in_files f journal c.serve_in_files.new.files)
             (later-follow f journal given.files.now c.prepare.new.files c.serve_in_files.new.files c.in-Ok.ensures.stays c.in-Ok.ensures.past ready.files)
-            (over-first-sink g.K.Sink g.A.Actuators g.H.Host g.H.In.Source g.H.Out.Sink g.C.Clock g.W.Waiter g.P.Spawner c.in-Ok.made.0 (gates_of c.in-Ok.made.0 c.in-Ok.made.1) (keys_in c.in-Ok.made.2) c.args.service.workers c.args.service.connections
+            (over-first-sink g.K.Sink g.A.Actuators g.H.Host g.H.In.Source g.H.Out.Sink g.C.Clock g.W.Waiter g.P.Spawner c.in-Ok.made.0 (gates_of c.in-Ok.made.0 c.in-Ok.made.1) _ c.args.service.workers c.args.service.connections
             c.prepare.new.devices.items given.clock.now given.host.now given.waiter.now given.spawner.now given.sink.now c.prepare.new.sink ready.sink _ c.serve_in_files.result.0 _ _
-            c.serve_in_files.ensures.serves);
+            c.serve_in_files.ensures.serves));
       },
       c.serve_in_files.ensures.listens,
     ))

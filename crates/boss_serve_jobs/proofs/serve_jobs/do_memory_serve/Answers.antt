@@ -1,6 +1,5 @@
-use Rattle.std.proofs.Common.{◌∷◌, ◌++◌, inl, inr, refl, vec_len}
+use Rattle.std.proofs.Common.{◌∷◌, ◌++◌, inl, inr, refl, sym, vec_len}
 use Rattle.boss_server.specs.Sites.{gates_of}
-use Rattle.boss_serve_jobs.specs.Keying.{keys_in}
 use Rattle.boss_serve_jobs.specs.Preparing.{listed}
 use Rattle.boss_serve_jobs.specs.ServeJobs.{all_at_start}
 use Rattle.boss_serve_jobs.proofs.PreparingLemmas.{all-are-front}
@@ -28,9 +27,9 @@ returns-clause-serves g c =
         devices = c.prepare.new.devices.items;
         set = ready.set;
         files = ready.files;
-        serves = memory-first-sink g.K.Sink g.A.Actuators g.H.Host g.H.In.Source g.H.Out.Sink g.C.Clock g.W.Waiter g.P.Spawner c.in-Ok.made.0 (gates_of c.in-Ok.made.0 c.in-Ok.made.1) (keys_in c.in-Ok.made.2) c.args.service.workers c.args.service.connections
+        serves = rw (sym c.parted-keys.ensures.keys) (memory-first-sink g.K.Sink g.A.Actuators g.H.Host g.H.In.Source g.H.Out.Sink g.C.Clock g.W.Waiter g.P.Spawner c.in-Ok.made.0 (gates_of c.in-Ok.made.0 c.in-Ok.made.1) _ c.args.service.workers c.args.service.connections
             c.prepare.new.devices.items given.clock.now given.host.now given.waiter.now given.spawner.now given.sink.now c.prepare.new.sink ready.sink _ c.serve_in_memory.result.0
-            c.serve_in_memory.ensures.serves;
+            c.serve_in_memory.ensures.serves);
       },
       c.serve_in_memory.ensures.listens,
     ))
