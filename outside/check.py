@@ -31,7 +31,7 @@ TESTS = {
     CLIENT: ["test_bacnet.Answers", "test_bacnet.Coding", "test_bossd.Addresses", "test_bossd.Checked", "test_bossd.Denying",
              "test_bossd.Gathering", "test_bossd.Kept", "test_bossd.Later", "test_bossd.SeveralAddresses", "test_bossd.Units",
              "test_ctl.Denied", "test_ctl.Finding", "test_ctl.Guarded", "test_ctl.Journals", "test_ctl.Linting", "test_ctl.Served",
-             "test_ctl.Showing", "test_follow", "test_keys", "test_session", "test_tls"],
+             "test_ctl.Showing", "test_evict.Asking", "test_evict.Parts", "test_evict.Showing", "test_follow", "test_keys", "test_session", "test_tls"],
     CONSOLE: ["tests.test_history", "tests.test_journal", "tests.test_keys", "tests.test_knowing.Before", "tests.test_knowing.Told", "tests.test_parts",
               "tests.test_schedules"],
     "": ["outside.test_edits", "outside.test_failover", "outside.test_references"],

@@ -1188,7 +1188,7 @@ class Serving(Folder):
         self.assertEqual((status, out.count("ahu1.damper")), (0, 2))
 
     def test_help_everywhere(self):
-        for command in ("", "points", "point", "set", "hold", "release", "watch", "processes", "transactions", "faults", "status", "journal",
+        for command in ("", "points", "point", "set", "hold", "release", "evict", "watch", "processes", "transactions", "faults", "status", "journal",
                         "top", "lint", "field", "version"):
             status, out, _ = self.run_here(*filter(None, [command]), "--help")
             self.assertEqual((status, "--catalogue" in out), (0, True))

@@ -11,7 +11,7 @@ from typing import Callable, Optional, Sequence
 from .. import overrides
 from .._client import tls_context
 from .._protocol import Busy, Refused, Unanswered, UnknownHost
-from . import _commands, _elect, _feed, _field, _follow, _journal, _key, _served
+from . import _commands, _elect, _evict, _feed, _field, _follow, _journal, _key, _served
 from ._toml import Failure
 
 SERVER = "127.0.0.1:7000"
@@ -167,6 +167,18 @@ def parser_of() -> argparse.ArgumentParser:
               "reversion is not played. A program that holds the point by a loop may take it again.")
     one.add_argument("point", metavar="POINT", help="the point's name")
     with_a_priority(one)
+
+    one = add(commands, "evict", _evict.evict, "end all that a process holds: what a program left that is gone, or whose key was taken away",
+              "Becomes the process for a moment, as whoever shows a key that is right for NAME may, or the administrator's of the name *, and whoever\n"
+              "comes where the server has no keys. Each slot that the process holds is written over with the value that it has, and let go at once: so\n"
+              "leases end, no reversion begins or goes on, and devices get what comes next and nothing in between. As with release, a slot that somebody\n"
+              "else takes in just that moment is taken from him.\n\n"
+              "Where the rules deny the process a write over a slot its lease is cancelled, and its reversion begins, or goes on: what is left, and until\n"
+              "when, is shown, and the status is 1. So it is, and nothing is ended, where NAME is attached elsewhere: end its program first, or take its\n"
+              "table out of the server's file of keys and restart the server.\n\n"
+              "What NAME holds is seen before it is attached. Where that is nothing it is not: no name is spent that was never there.")
+    one.add_argument("process", metavar="NAME", help="the name of the process; the key that is shown is that of this name, whatever BOSSD_AS says")
+    one.add_argument("--dry-run", action="store_true", help="show what would be ended, and end nothing; whether NAME is attached elsewhere is not seen so")
 
     one = add(commands, "watch", _commands.watch, "show what a process is told, as it comes", "Goes on until Ctrl-C.")
     one.add_argument("process", metavar="PROCESS", help="the name of the process")
