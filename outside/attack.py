@@ -12,6 +12,7 @@ all the same."""
 
 import contextlib
 import fcntl
+import json
 import os
 import pty
 import re
@@ -790,6 +791,54 @@ def ended_by_another(place: Place) -> str:
     return "ended, as that of a process that is lost; open to whoever connects first"
 
 
+# Level 1 is that of `safety` alone, and the operators' begins at 8.
+LEVELS = '[[rule]]\nprocess = "safety"\npoint = "*"\n[[rule]]\nprocess = "operator"\npoint = "*"\nhighest = 8\n'
+DAY = 86_400_000
+# The damper at level 1 for a week, and eight days behind it.
+STAY = json.dumps({"op": "submit", "writes": [{"point": "air.damper", "value": 60_000, "priority": 1, "lease": 7 * DAY,
+                                               "revert": [[70_000 + step, DAY] for step in range(8)]}]}).encode() + b"\n"
+READ = b'{"op":"read","point":"air.damper"}\n'
+
+
+def bossctl(server: Served, *words: str) -> Ended:
+    return run([os.path.join(PACKAGING, "bossctl"), *words, "--server", f"127.0.0.1:{server.port}"], {**os.environ, "PYTHONPATH": CLIENT})
+
+
+def see_free(server: Served) -> None:
+    """The damper is at its default, and nothing stands or is to come in any of its slots."""
+    slots, reading = server.ask(ARRAY, READ)
+    see(json.loads(slots)["slots"] == 16 * [None] and b'"from":"default"' in reading, f"the damper: {reading!r}, {slots!r}")
+
+
+def stays(place: Place) -> str:
+    """Under rules that let nobody else write at level 1 a stranger takes the name that may, holds the damper there for a week with eight days of
+    reversions, and leaves, or the server is started again: no other name ends it. `bossctl evict` does, at once, and nothing comes behind it."""
+    files = [write(os.path.join(place.path, "etc", "rules.toml"), LEVELS)]
+    taken = [ATTACH.replace(b"comfort", b"safety"), STAY]
+    for basis, leaves in ((b'"from":"pending"', True), (b'"from":"lease"', False)):
+        with served(place, 4, journal=place.journal, files=files) as server, contextlib.closing(server.link()) as link:
+            see(b'"ok":"accepted"' in [say(link, line) for line in taken][-1], "the damper was not taken")
+            told = bossctl(server, "evict", "safety")
+            see(told.status == 1 and "refused: taken" in told.errors, f"while the stranger is there: {told}")
+            if leaves:
+                link.close()
+                see(eventually(lambda: b'"from":"pending"' in server.ask(READ)[0], SLACK), "it does not revert")
+            server.stop()
+        with served(place, 4, journal=place.journal, files=files) as server:
+            see(basis in server.ask(READ)[0], f"after a restart: {server.ask(READ)}")
+            last = int(json.loads(server.ask(READ)[0])["txn"])
+            answers = say_as(server, b"operator", STAY, b'{"op":"cancel","txn":%d}\n' % last)
+            see(b'"denied"' in answers[1] and b'"not-yours"' in answers[2], f"the operator: {answers}")
+            told = bossctl(server, "evict", "safety")
+            see(told.status == 0 and "it holds nothing any more" in told.output, f"evict: {told}")
+            see_free(server)
+            see(b'"ok":"accepted"' in say_as(server, b"operator", STAY.replace(b'"priority": 1', b'"priority": 8'))[-1], "the operator is refused")
+            told = bossctl(server, "evict", "operator")
+            see(told.status == 0, f"evict of the operator: {told}")
+            see_free(server)
+    return "ended by bossctl evict, a lease and a reversion, and nothing comes behind it; nobody else's command ends it"
+
+
 # ---- a device that executes a write late
 
 class Gateway:
@@ -898,7 +947,7 @@ AS_ROOT: List[Case] = [
 ]
 AS_ANYBODY: List[Case] = [
     address_of_a_network, mistaken_rules, feed_alone, feed_by_ssh, never_reads, says_nothing, half_a_line, short_of_descriptors, new_journal,
-    other_names_of_a_journal, all_names, numbers_used_up, ended_by_another, late_write, set_clock, exposed_units,
+    other_names_of_a_journal, all_names, numbers_used_up, ended_by_another, stays, late_write, set_clock, exposed_units,
 ]
 
 

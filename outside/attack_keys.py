@@ -13,7 +13,9 @@ import threading
 import time
 from typing import Iterator, List, NamedTuple, Optional, Sequence
 
-from outside.attack import ARRAY, ATTACH, HOLD, PACKAGING, SLACK, SOON, Case, Place, Served, is_over, run, say, served, text_of, write
+from outside.attack import (
+    ARRAY, ATTACH, HOLD, PACKAGING, SLACK, SOON, STAY, Case, Ended, Place, Served, bossctl, is_over, run, say, served, text_of, write,
+)
 from outside.cases import see
 from outside.keys import digest, key_of
 from outside.program import eventually, free_port
@@ -140,6 +142,33 @@ def another_name_later(place: Place) -> str:
         # Who was let in to ask attaches under his own name alone.
         see(say(look, ATTACH) == WRONG, "a connection of page attached as comfort")
     return "each was the end of its connection, and of what that held"
+
+
+def taken_away(place: Place) -> str:
+    """Whose key was stolen holds the damper at level 1, with days of reversions. The key is taken away, as docs/OPERATIONS.md has it, and
+    `bossctl evict` ends what it held by the administrator's key, and by no other one."""
+    owner = key_of("owner")
+    shows = {name: write(os.path.join(place.path, f"{name}.key"), key, 0o600) for name, key in {**KEYS, "owner": owner}.items() if "*" not in name}
+
+    def evict(server: Served, name: str) -> Ended:
+        return bossctl(server, "evict", "comfort", "--key", shows[name])
+
+    with served(place, 4, journal=place.journal, files=["-", "-", file_of(place, **{**KEYS, "*": owner})]) as server:
+        with contextlib.closing(server.link()) as link:
+            see(b'"ok":"accepted"' in [say(link, line) for line in (shown(ATTACH, KEYS["comfort"]), STAY)][-1], "the damper was not taken")
+            told = evict(server, "owner")
+            see(told.status == 1 and "refused: taken" in told.errors and "file of keys" in told.errors, f"while it is attached: {told}")
+            server.stop()
+    with served(place, 4, journal=place.journal, files=["-", "-", file_of(place, page=KEYS["page"], **{"*": owner})]) as server:
+        for name in ("comfort", "page"):
+            told = evict(server, name)
+            see(told == Ended(1, "", "bossctl: refused: wrong-key: the server has no such key for comfort\n"), f"by the key of {name}: {told}")
+        told = evict(server, "owner")
+        see(told.status == 0 and "comfort: ended 1 lease; it holds nothing any more" in told.output, f"by the administrator's: {told}")
+        with contextlib.closing(server.link()) as link:
+            see(json.loads(say(link, shown(READ, KEYS["page"])))["from"] == "default", "the damper is not at its default")
+            see(json.loads(say(link, ARRAY))["slots"] == 16 * [None], "something stands at the damper yet")
+    return "ended by the administrator's key, once its own is out; another one is told wrong-key"
 
 
 # ---- many
@@ -346,5 +375,8 @@ def takes_keys(place: Place) -> bool:
     return run(words, os.environ).output == "keys missing\n"
 
 
-WITH_KEYS: Sequence[Case] = (guessed, in_the_wrong_place, replayed, another_name_later, many_wrong_keys, silent_beside_reserve, blank_beside_reserve, left_nowhere)
+WITH_KEYS: Sequence[Case] = (
+    guessed, in_the_wrong_place, replayed, another_name_later, taken_away, many_wrong_keys, silent_beside_reserve, blank_beside_reserve,
+    left_nowhere,
+)
 EVER: Sequence[Case] = (units_without_cores,)
