@@ -209,18 +209,21 @@ def traffic(members: Members, folder: str, name: str, disturb: Callable[[], None
     served = Served(folder, word)
     begun, acknowledged, longest, done = time.monotonic(), 0, 0.0, False
     before = events_of(word)
-    while time.monotonic() - begun < 8 or not done:
-        if not done and time.monotonic() - begun > 2:
-            disturb()
-            done = True
-        at = time.monotonic()
-        answer = served.ask(SUBMIT)
-        longest = max(longest, time.monotonic() - at)
-        see("ok" in answer, f"a submit was answered {answer}: {served.text()}")
-        acknowledged += 1
-    mend()
-    served.end()
-    members.await_health()
+    try:
+        while time.monotonic() - begun < 8 or not done:
+            if not done and time.monotonic() - begun > 2:
+                disturb()
+                done = True
+            at = time.monotonic()
+            answer = served.ask(SUBMIT)
+            longest = max(longest, time.monotonic() - at)
+            see("ok" in answer, f"a submit was answered {answer}: {served.text()}")
+            acknowledged += 1
+    finally:
+        # The cases behind it need all members, whatever came of this one.
+        mend()
+        served.end()
+        members.await_health()
     see(events_of(word) == before + acknowledged, f"{acknowledged} submits were acknowledged, and {events_of(word) - before} are there")
     return f"{acknowledged} submits, the longest {longest:.1f} s"
 
