@@ -300,15 +300,28 @@ def silent_beside_reserve(place: Place) -> str:
 
 
 def blank_beside_reserve(place: Place) -> str:
-    """A stranger whose first line is blank, or is no object, at workers that are kept: neither shows a key, and neither ends his connection, so he
-    holds that worker as long as he likes. Open."""
+    """A stranger whose lines are blank, or no object, at workers that are kept: none shows a key, and none ends his connection. He is ended after a
+    second all the same, also where he goes on with such lines; who shows his key behind one is not."""
     lines = (b"\n", b"{\n", b"[]\n")
     with with_keys(place, len(lines), reserve=len(lines)) as server, contextlib.ExitStack() as stack:
         links = [stack.enter_context(contextlib.closing(server.link())) for _ in lines]
         for link, line in zip(links, lines):
             link.sendall(line)
-        see(answered_after(server, stack, IN_VAIN) is None, "who has a key is served behind them: it is open no longer, so say so")
-    return f"who has a key is not served within {IN_VAIN:.0f} s: open"
+        began = time.monotonic()
+        while time.monotonic() - began < SHOWING + SLACK and not is_over(links[0]):
+            time.sleep(0.1)
+            with contextlib.suppress(OSError):
+                links[0].send(lines[0])
+        ended = time.monotonic() - began
+        see(ended < SHOWING + SLACK, f"who sends blank lines again and again is there after {ended:.1f} s")
+        after = answered_after(server, stack, SERVED)
+        see(after is not None, f"who has a key is not served within {SERVED} s behind them")
+        late = stack.enter_context(contextlib.closing(server.link()))
+        see(b'"error":"malformed"' in say(late, b"x\n"), "a line that is none is not told as malformed")
+        see(b'"ok":"attached"' in say(late, shown(ATTACH, KEYS["comfort"])), "comfort is not let in behind a line that is none")
+        time.sleep(2 * SHOWING)
+        see(b'"ok"' in say(late, ARRAY), "who has shown a key behind a line that is none has lost his connection")
+    return f"blank lines are over after {ended:.1f} s; who has a key is served after {after:.1f} s more"
 
 
 def beside(server: Served, stack: contextlib.ExitStack) -> None:
