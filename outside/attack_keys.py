@@ -11,7 +11,7 @@ import subprocess
 import sys
 import threading
 import time
-from typing import Iterator, List, NamedTuple, Optional, Sequence
+from typing import Iterator, List, Mapping, NamedTuple, Optional, Sequence
 
 from outside.attack import (
     ARRAY, ATTACH, HOLD, PACKAGING, SLACK, SOON, STAY, Case, Ended, Place, Served, bossctl, is_over, run, say, served, text_of, write,
@@ -28,16 +28,16 @@ RATE, LONG, STRANGERS, ASKERS = 10_000, 10.0, 3, 4
 SLOWER = 20.0
 
 
-def file_of(place: Place, reserve: int = 0) -> str:
-    """A file of keys for the processes of KEYS, which keeps so many workers."""
+def file_of(place: Place, keys: Mapping[str, str] = KEYS, reserve: int = 0) -> str:
+    """A file of keys for these processes, which keeps so many workers."""
     kept = f"reserve = {reserve}\n" if reserve else ""
-    tables = (f'[[key]]\nprocess = "{process}"\nsha256 = "{digest(key)}"\n' for process, key in KEYS.items())
+    tables = (f'[[key]]\nprocess = "{process}"\nsha256 = "{digest(key)}"\n' for process, key in keys.items())
     return write(os.path.join(place.path, "etc", "keys.toml"), kept + "".join(tables))
 
 
 @contextlib.contextmanager
 def with_keys(place: Place, workers: int, journal: str = "-", reserve: int = 0) -> Iterator[Served]:
-    with served(place, workers, journal=journal, files=["-", "-", file_of(place, reserve)]) as server:
+    with served(place, workers, journal=journal, files=["-", "-", file_of(place, reserve=reserve)]) as server:
         yield server
 
 
@@ -153,13 +153,13 @@ def taken_away(place: Place) -> str:
     def evict(server: Served, name: str) -> Ended:
         return bossctl(server, "evict", "comfort", "--key", shows[name])
 
-    with served(place, 4, journal=place.journal, files=["-", "-", file_of(place, **{**KEYS, "*": owner})]) as server:
+    with served(place, 4, journal=place.journal, files=["-", "-", file_of(place, {**KEYS, "*": owner})]) as server:
         with contextlib.closing(server.link()) as link:
             see(b'"ok":"accepted"' in [say(link, line) for line in (shown(ATTACH, KEYS["comfort"]), STAY)][-1], "the damper was not taken")
             told = evict(server, "owner")
             see(told.status == 1 and "refused: taken" in told.errors and "file of keys" in told.errors, f"while it is attached: {told}")
             server.stop()
-    with served(place, 4, journal=place.journal, files=["-", "-", file_of(place, page=KEYS["page"], **{"*": owner})]) as server:
+    with served(place, 4, journal=place.journal, files=["-", "-", file_of(place, {"page": KEYS["page"], "*": owner})]) as server:
         for name in ("comfort", "page"):
             told = evict(server, name)
             see(told == Ended(1, "", "bossctl: refused: wrong-key: the server has no such key for comfort\n"), f"by the key of {name}: {told}")
