@@ -90,17 +90,17 @@ fn a_dead_disk_is_found_where_nothing_changes(rt: HostRuntime) {
     let alloc = rt.alloc();
     let catalogue = three_points(&rt, alloc);
     assert!(&rt; catalogue.count() == 3);
-    let mut found: usize = 0;
+    let mut left: &[usize] = &ASKED;
     for calls in 0..MANY {
         let Some(place) = fails_behind(&rt, alloc, &catalogue, calls) else {
             continue;
         };
-        if found == ASKED.len() {
+        let Some((next, rest)) = left.split_first() else {
             assert!(&rt; place == MOMENTS.len());
             return;
-        }
-        assert!(&rt; place == ASKED[found]);
-        found += 1;
+        };
+        assert!(&rt; place == *next);
+        left = rest;
     }
     rt.panic("a disk that lives");
 }
